@@ -1,0 +1,43 @@
+"""The scan of a block for its links, against the length of the block.
+
+The block is nested arrays, one in the other to the last byte: each byte is a head of its own. It is put under a
+dag-cbor CID and scanned, and under a raw CID and not scanned, both with its sha2-256 digest. What lies between is the
+scan.
+"""
+import hashlib
+import os
+import sys
+
+from timing import best, put, put_script, shown
+
+LENGTHS = (1_000_000, 8_000_000)
+
+DAG_CBOR = bytes.fromhex("01711220")
+RAW = bytes.fromhex("01551220")
+
+
+def main(folder):
+    commands = []
+    for length in LENGTHS:
+        data = b"\x81" * (length - 1) + b"\x80"
+        digest = hashlib.sha256(data).digest()
+        for name, codec in (("scanned", DAG_CBOR), ("unscanned", RAW)):
+            path = os.path.join(folder, f"{name}-{length}")
+            put_script(path, codec + digest, data, "stored 1")
+            commands.append(put(path))
+
+    times = best(commands)
+    scans = []
+    print("scan of nested arrays")
+    for place, length in enumerate(LENGTHS):
+        scanned, unscanned = times[2 * place], times[2 * place + 1]
+        scans.append(scanned - unscanned)
+        each = scans[-1] * 1e9 / length
+        print(f"  {length:,} bytes: put, scanned {shown(scanned)}; not scanned {shown(unscanned)}; "
+              f"the scan {shown(scans[-1])}, {each:.2f} ns a byte")
+    print(f"  ratio {scans[1] / scans[0]:.2f} for {LENGTHS[1] / LENGTHS[0]:.0f} times the bytes "
+          f"(wanted: about {LENGTHS[1] / LENGTHS[0]:.0f}, which is linear)")
+
+
+if __name__ == "__main__":
+    main(sys.argv[1])

@@ -1,0 +1,12 @@
+pub mod Appending
+pub mod BlockList
+pub mod Clients
+pub mod ClientViews
+pub mod Endings
+pub mod Faults
+pub mod Numbers
+pub mod Pairs
+pub mod Steps
+pub mod Refusals
+pub mod Splits
+pub mod ViewCount

@@ -1,0 +1,41 @@
+-- A decimal number of a script, as std's `parse` reads it.
+use Rattle.std.proofs.Common.{◌≡◌, ℕ, ◌<◌, ◌^◌, Bool, true, false, cond, List, [], ◌∷◌, Some, None, Result, Ok, Err, length, refl, sym, ap, ◌∙◌, arith, ◌&&◌}
+use Rattle.std.specs.Prelude.{nat_lt}
+use Rattle.std.specs.List.{list_all}
+use Rattle.std.specs.Char.{is_ascii_digit}
+use Rattle.std.specs.Result.{result_ok, OkIff}
+use Rattle.std.specs.Str.{IsUtf8, IsAscii, all_ascii_digits}
+use Rattle.std.specs.Str.Parse.{ParsesUnsigned, digits_value}
+use Rattle.std.proofs.lemmas.Bool.{and_parts, ltb-true, ltb-false}
+use Rattle.std.proofs.lemmas.Fmt.{IsAscii-from_digits}
+use Rattle.std.proofs.lemmas.Str.{IsUtf8-from_ascii}
+use Rattle.std.proofs.lemmas.Str.Parse.{IsNumeralModel, numerals_by_value, tells_all_ascii_digits, parse_digits}
+use Rattle.ss_app.specs.Script.{is_number, number_of}
+
+own : IsNumeralModel (λ ds. all_ascii_digits ds ≡ true) (digits_value 10)
+own = numerals_by_value _ tells_all_ascii_digits
+
+digits_are : (bs : List ℕ) → list_all is_ascii_digit bs ≡ all_ascii_digits bs
+digits_are [] = refl
+digits_are (b ∷ bs) = ap (λ rest. is_ascii_digit b && rest) (digits_are bs)
+
+number_digits : (bs : List ℕ) → is_number bs ≡ true → all_ascii_digits bs ≡ true
+number_digits bs is = sym (digits_are bs) ∙ (and_parts _ _ (and_parts (nat_lt 0 (length bs)) _ is).1).0
+
+numeral_is_ascii : (bs : List ℕ) → all_ascii_digits bs ≡ true → IsAscii bs
+numeral_is_ascii bs is = IsAscii-from_digits bs (own.to bs is)
+
+pub number_text : (bs : List ℕ) → is_number bs ≡ true → IsUtf8 bs
+number_text bs is = IsUtf8-from_ascii bs (numeral_is_ascii bs (number_digits bs is))
+
+pub number_parsed : {E : Type 0} (bs : List ℕ) (r : Result ℕ E) → is_number bs ≡ true → ParsesUnsigned 32 10 bs r → result_ok r ≡ number_of bs
+unfolding number_of
+number_parsed bs r is parses =
+    let positive : 0 < length bs = ltb-true _ _ (and_parts (nat_lt 0 (length bs)) _ is).0 in
+    rw is (go r (parse_digits own 32 bs r parses (number_digits bs is)) (nat_lt (digits_value 10 bs) (2 ^ 32)) refl positive)
+  where
+    go : {E : Type 0} (r : Result ℕ E) → OkIff r ((0 < length bs) × (digits_value 10 bs < 2 ^ 32)) (digits_value 10 bs) → (b : Bool) → nat_lt (digits_value 10 bs) (2 ^ 32) ≡ b → 0 < length bs → result_ok r ≡ cond b (Some (digits_value 10 bs)) None
+    go (Ok x) h true e p = ap Some h.1
+    go (Ok x) h false e p = absurd (omega (arith, ltb-false _ _ e, h.0.1))
+    go (Err x) h true e p = absurd (h (p, ltb-true _ _ e))
+    go (Err x) h false e p = refl

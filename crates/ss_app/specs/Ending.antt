@@ -1,0 +1,43 @@
+-- The status of each ending of a run, and the line that tells why.
+use Rattle.std.specs.Prelude.{ℕ, List, [], ◌∷◌, ◌++◌, codes}
+use Rattle.std.specs.List.{flat_map}
+use Rattle.std.specs.Fmt.{decimal}
+use Rattle.ss_app.specs.declared.script.ScriptFault.{ScriptFault}
+use Rattle.ss_app.specs.declared.script.ScriptFault.TheVariants as script
+use Rattle.ss_app.specs.declared.script.ScriptKind.{ScriptKind}
+use Rattle.ss_app.specs.declared.script.ScriptKind.TheVariants.{NotYet}
+use Rattle.ss_app.specs.declared.ending.Ending.{Ending}
+use Rattle.ss_app.specs.declared.ending.Ending.TheVariants.{Done, Usage, NoMemory, ReadFault, BadScript, TooLong}
+
+-- the ending of a run whose script is not read
+abbrev pub ending_of : ScriptFault → Ending
+ending_of (script.Bad line kind) = BadScript line kind
+ending_of script.NoMemory = NoMemory
+
+abbrev pub status_of : Ending → ℕ
+status_of Done = 0
+status_of (Usage word) = 2
+status_of NoMemory = 3
+status_of ReadFault = 4
+status_of (BadScript line kind) = 9
+status_of TooLong = 13
+
+-- the number of each kind of fault in a script line
+abbrev pub kind_number : ScriptKind → ℕ
+kind_number NotYet = 9
+
+abbrev pub number_text : ℕ → List ℕ
+number_text n = codes " " ++ decimal n
+
+-- each number behind a space
+abbrev pub numbers_text : List ℕ → List ℕ
+numbers_text numbers = flat_map number_text numbers
+
+-- the last line that is written
+abbrev pub line_of : Ending → List ℕ
+line_of Done = []
+line_of (Usage word) = codes "error: usage" ++ (numbers_text (word ∷ []) ++ codes "\n")
+line_of NoMemory = codes "error: no memory\n"
+line_of ReadFault = codes "error: read fault\n"
+line_of (BadScript line kind) = codes "error: script" ++ (numbers_text (line ∷ kind_number kind ∷ []) ++ codes "\n")
+line_of TooLong = codes "error: too long\n"

@@ -1,0 +1,12 @@
+pub mod Ending
+pub mod Input
+pub mod Outcome
+pub mod Printing
+pub mod Progress
+pub mod Run
+pub mod Script
+pub mod Store
+pub mod Text
+pub use Rattle.ss_model.specs.State
+pub use Rattle.ss_model.specs.Lawful
+pub use Rattle.ss_model.specs.History

@@ -1,0 +1,102 @@
+//! How a run ends: its status, and the line that tells why.
+
+ghost use Rattle.std.specs.Prelude.{◌≡◌, ◌++◌, codes};
+ghost use Rattle.ss_io.specs.Causes.{HasCause};
+ghost use Rattle.ss_io.specs.Written.{PutAppends};
+ghost use Rattle.ss_app.specs.Ending.{status_of, line_of, number_text, numbers_text};
+
+use crate::script::{ScriptFault, ScriptKind};
+use itoa::Buffer;
+use ss_io::{Failed, Sink};
+
+/// How a run ends, but for a sink that failed.
+#[derive(Clone, Copy, Debug, PartialEq, Eq)]
+pub enum Ending {
+    /// All was done.
+    Done,
+    /// The word at this place, from 0, is not of the form; where one is missing, their number.
+    Usage { word: usize },
+    /// Memory was wanting.
+    NoMemory,
+    /// The source failed.
+    ReadFault,
+    /// The line of the script is at fault.
+    BadScript { line: u32, kind: ScriptKind },
+    /// The script has more bytes than a script may have.
+    TooLong,
+}
+
+impl From<ScriptFault> for Ending {
+    ghost use Rattle.std.specs.Prelude.{◌≡◌};
+    ghost use Rattle.ss_app.specs.Ending.{ending_of};
+
+    ghost from_gives = { λ fault ending. ending ≡ ending_of fault };
+
+    fn from(fault: ScriptFault) -> Ending {
+        match fault {
+            ScriptFault::Bad { line, kind } => Ending::BadScript { line, kind },
+            ScriptFault::NoMemory => Ending::NoMemory,
+        }
+    }
+}
+
+impl Ending {
+    /// The status that the program ends with.
+    pub fn status(self) -> u8
+        ensures { result ≡ status_of self }
+    {
+        match self {
+            Ending::Done => 0,
+            Ending::Usage { word: _ } => 2,
+            Ending::NoMemory => 3,
+            Ending::ReadFault => 4,
+            Ending::BadScript { line: _, kind: _ } => 9,
+            Ending::TooLong => 13,
+        }
+    }
+
+    /// Writes the line that tells why, if the ending has one.
+    pub fn put_line<K: Sink>(self, sink: &mut K) -> Result<(), Failed>
+        ensures bytes { PutAppends (K.written sink.old) (K.written sink.new) result (line_of self) }
+        ensures cause { HasCause (K.faults sink.old) (K.faults sink.new) result }
+    {
+        match self {
+            Ending::Done => Ok(()),
+            Ending::Usage { word } => put_numbers(sink, b"error: usage", &[word as u64]),
+            Ending::NoMemory => sink.put(b"error: no memory\n"),
+            Ending::ReadFault => sink.put(b"error: read fault\n"),
+            Ending::BadScript { line, kind } => {
+                let numbers = [u64::from(line), u64::from(kind.number())];
+                put_numbers(sink, b"error: script", &numbers)
+            }
+            Ending::TooLong => sink.put(b"error: too long\n"),
+        }
+    }
+}
+
+// Writes a label, and then each number behind a space, as one line.
+fn put_numbers<K: Sink>(sink: &mut K, label: &[u8], numbers: &[u64]) -> Result<(), Failed>
+    ensures bytes { PutAppends (K.written sink.old) (K.written sink.new) result (label.now ++ (numbers_text numbers.now ++ codes "\n")) }
+    ensures cause { HasCause (K.faults sink.old) (K.faults sink.new) result }
+{
+    if let Err(failed) = sink.put(label) {
+        return Err(failed);
+    }
+    for number in numbers {
+        if let Err(failed) = put_number(sink, *number) {
+            return Err(failed);
+        }
+    }
+    sink.put(b"\n")
+}
+
+fn put_number<K: Sink>(sink: &mut K, number: u64) -> Result<(), Failed>
+    ensures bytes { PutAppends (K.written sink.old) (K.written sink.new) result (number_text number) }
+    ensures cause { HasCause (K.faults sink.old) (K.faults sink.new) result }
+{
+    let mut digits = Buffer::new();
+    if let Err(failed) = sink.put(b" ") {
+        return Err(failed);
+    }
+    sink.put(digits.format(number).as_bytes())
+}

@@ -1,0 +1,11 @@
+pub mod Numbers
+pub mod Heads
+pub mod Pieces
+pub mod Parts
+pub mod Rows
+pub mod Walk
+pub mod Ends
+pub mod Scanned
+pub mod LinkRows
+pub mod Fronts
+pub mod Readings

@@ -1,0 +1,149 @@
+//! Reading an item part by part.
+ghost use Rattle.std.specs.Prelude.{◌≡◌, ◌↔◌, ◌≤◌, ◌++◌, length, [], ℕ, List, Ok, Err, MatchResult, IfOk, IfErr, OnErr, IsTrue, All};
+ghost use Rattle.ss_cid.specs.Cid.{IsCid};
+ghost use Rattle.ss_cbor.specs.Fault.{FirstFault, item_at};
+ghost use Rattle.ss_cbor.specs.Gives.{Gives};
+ghost use Rattle.ss_cbor.specs.Item.{links_of, IsPart, IsItem};
+ghost use Rattle.ss_cbor.specs.Part.{part_of, raw_part_of};
+ghost use Rattle.ss_cbor.specs.Position.{start_of, place_of};
+ghost use Rattle.ss_cbor.specs.Reading.{part_at};
+
+use crate::fault::CborFault;
+use crate::item::Item;
+use crate::links::cid_of;
+use crate::raw_part::RawPart;
+use crate::reading::part_at;
+use crate::scanner::item_end;
+use std::marker::Model;
+
+/// Reads items from left to right. An array or a map is entered: the items in it come next.
+///
+/// It answers the faults of the head that it reads, with the items still due counted from that head alone, or
+/// those of the one item that it skips, and never `Trailing`. After a fault it stands where it stood.
+#[derive(Debug, Drop)]
+pub struct Cursor<'a> {
+    rest: &'a [u8],
+    end: usize,
+}
+
+impl<'a> Model for Cursor<'a> {
+    ghost use Rattle.std.specs.Prelude.{◌≤◌, length};
+    ghost use Rattle.ss_cbor.specs.Position.{Position};
+
+    ghost Value = { Position };
+
+    ghost view = { λ c. record { rest = c.rest.now; end = c.end } };
+
+    ghost invariant = { λ c. length c.rest.now ≤ c.end };
+}
+
+impl<'a> Cursor<'a> {
+    /// A cursor in front of all bytes.
+    pub fn new(bytes: &'a [u8]) -> Cursor<'a>
+        ensures { result ≡ start_of bytes.now }
+    {
+        Cursor {
+            rest: bytes,
+            end: bytes.len(),
+        }
+    }
+
+    /// Reads one part, which of an array or a map is its head alone.
+    pub fn next(&mut self) -> Result<Item<'a>, CborFault>
+        ensures value { MatchResult result
+            (λ item. part_at 0 self.old.end self.old.rest ≡ Ok (part_of item, self.new.rest))
+            (λ fault. part_at 0 self.old.end self.old.rest ≡ Err fault) }
+        ensures spelled { IfOk result (λ item. (front : List ℕ) × IsPart front (part_of item) × (self.old.rest ≡ front ++ self.new.rest)) }
+        ensures end { self.new.end ≡ self.old.end }
+        ensures err { OnErr result (self.new ≡ self.old) }
+    {
+        match next_item(self.end, self.rest) {
+            Ok((item, rest)) => {
+                self.rest = rest;
+                Ok(item)
+            }
+            Err(fault) => Err(fault),
+        }
+    }
+
+    /// Reads one whole item, and lends its bytes.
+    pub fn skip(&mut self) -> Result<&'a [u8], CborFault>
+        ensures value { MatchResult result
+            (λ item. item_at self.old.end self.old.rest ≡ Ok (item.now, self.new.rest))
+            (λ fault. item_at self.old.end self.old.rest ≡ Err fault) }
+        ensures item { IfOk result (λ item. (links : List (List ℕ)) × IsItem item.now links × (self.old.rest ≡ item.now ++ self.new.rest)) }
+        ensures refused { IfErr result (λ fault. FirstFault self.old.end 1 self.old.rest fault) }
+        ensures end { self.new.end ≡ self.old.end }
+        ensures err { OnErr result (self.new ≡ self.old) }
+    {
+        match split_item(self.end, self.rest) {
+            Ok((item, rest)) => {
+                self.rest = rest;
+                Ok(item)
+            }
+            Err(fault) => Err(fault),
+        }
+    }
+
+    /// How many bytes are read.
+    pub fn at(&self) -> usize
+        ensures { result ≡ place_of self.now }
+    {
+        self.end - self.rest.len()
+    }
+
+    /// Whether no byte is left.
+    pub fn is_at_end(&self) -> bool
+        ensures { IsTrue result ↔ (self.now.rest ≡ []) }
+    {
+        self.rest.is_empty()
+    }
+}
+
+// The part at the front of the bytes, and what is behind it.
+fn next_item(end: usize, bytes: &[u8]) -> Result<(Item<'_>, &[u8]), CborFault>
+    requires { length bytes.now ≤ end }
+    ensures value { Gives (λ x. (part_of x.0, x.1.now)) result (part_at 0 end bytes.now) }
+    ensures spelled { IfOk result (λ x. (front : List ℕ) × IsPart front (part_of x.0) × (bytes.now ≡ front ++ x.1.now)) }
+    ensures shorter { IfOk result (λ x. length x.1.now ≤ length bytes.now) }
+{
+    match part_at(0, end, bytes) {
+        Ok((part, rest)) => {
+            let item = item_of(part);
+            Ok((item, rest))
+        }
+        Err(fault) => Err(fault),
+    }
+}
+
+// The bytes of the item at the front, and what is behind it.
+fn split_item(end: usize, bytes: &[u8]) -> Result<(&[u8], &[u8]), CborFault>
+    requires { length bytes.now ≤ end }
+    ensures value { Gives (λ x. (x.0.now, x.1.now)) result (item_at end bytes.now) }
+    ensures item { IfOk result (λ x. (links : List (List ℕ)) × IsItem x.0.now links × (bytes.now ≡ x.0.now ++ x.1.now)) }
+    ensures refused { IfErr result (λ fault. FirstFault end 1 bytes.now fault) }
+    ensures shorter { IfOk result (λ x. length x.1.now ≤ length bytes.now) }
+{
+    let rest = item_end(end, bytes)?;
+    let (item, _) = bytes.split_at(bytes.len() - rest.len());
+    Ok((item, rest))
+}
+
+// The item that a part is.
+fn item_of(part: RawPart<'_>) -> Item<'_>
+    requires { All IsCid (links_of (raw_part_of part)) }
+    ensures { part_of result ≡ raw_part_of part.entry }
+{
+    match part {
+        RawPart::Uint(n) => Item::Uint(n),
+        RawPart::Nint(n) => Item::Nint(n),
+        RawPart::Blob(bytes) => Item::Blob(bytes),
+        RawPart::Text(bytes) => Item::Text(bytes),
+        RawPart::Array(n) => Item::Array(n),
+        RawPart::Map(n) => Item::Map(n),
+        RawPart::Link(cid) => Item::Link(cid_of(cid)),
+        RawPart::Float => Item::Float,
+        RawPart::Bool(value) => Item::Bool(value),
+        RawPart::Null => Item::Null,
+    }
+}

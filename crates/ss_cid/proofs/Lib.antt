@@ -1,0 +1,14 @@
+pub mod Lists
+pub mod Chains
+pub mod Varints
+pub mod Groups
+pub mod Grammar
+pub mod Parcels
+pub mod Queues
+pub mod Digits
+pub mod Reading
+pub mod Writing
+pub mod Spelling
+pub mod Texts
+pub mod Ordered
+pub mod Words

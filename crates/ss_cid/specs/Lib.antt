@@ -1,0 +1,7 @@
+pub mod Steps
+pub mod Varint
+pub mod Cid
+pub mod Codec
+pub mod Base32
+pub mod Text
+pub mod Parcel

@@ -1,0 +1,82 @@
+ghost use Rattle.std.specs.Prelude.{◌≡◌, ◌≢◌, ℕ, ◌↔◌, List, IsOk, OnErr, IfSome};
+ghost use Rattle.ss_hash.specs.Blake2b.{blake2b};
+ghost use Rattle.ss_hash.specs.Digest.{IsValid, IsUnknownHash, IsMismatch, IsNotIdentity, PartAt};
+
+use crate::digest::blake2b;
+use crate::fault::HashFault;
+use sha2::{Digest, Sha256};
+use ss_cid::{Cid, HASH_BLAKE2B_256, HASH_SHA2_256, HashCode};
+
+/// The length of a digest in bytes, but for an identity CID.
+const DIGEST_LEN: usize = 32;
+
+// The first place at which two slices differ, or the shorter length; None where they are equal.
+fn first_difference(a: &[u8], b: &[u8]) -> Option<usize>
+    ensures none { (result ≡ None) ↔ (a.now ≡ b.now) }
+    ensures place { IfSome result (PartAt a.now b.now) }
+{
+    let shorter = a.len().min(b.len());
+    for i in 0..shorter {
+        if a[i] != b[i] {
+            return Some(i);
+        }
+    }
+    if a.len() == b.len() {
+        None
+    } else {
+        Some(shorter)
+    }
+}
+
+// The BLAKE2b digest that blake2b-256 CIDs carry.
+fn blake2b_256(bytes: &[u8]) -> [u8; DIGEST_LEN]
+    ensures { result ≡ blake2b 32 bytes.now }
+{
+    let mut digest = [0; DIGEST_LEN];
+    digest.copy_from_slice(&blake2b(DIGEST_LEN, bytes)[..DIGEST_LEN]);
+    digest
+}
+
+// Compares the CID's digest with that of the bytes.
+fn check_digest(digest: &[u8], got: [u8; DIGEST_LEN]) -> Result<(), HashFault>
+    ensures same { IsOk result ↔ (digest.now ≡ got) }
+    ensures other { OnErr result ((result ≡ Err (HashFault.Mismatch got)) × (digest.now ≢ got)) }
+{
+    if digest == &got[..] {
+        Ok(())
+    } else {
+        Err(HashFault::Mismatch { got })
+    }
+}
+
+/// Checks that a block's bytes are those that its CID names.
+///
+/// The hash function is judged first, with the length of the digest; the bytes are read only where both are
+/// known. Each block has one answer, so that a refusal comes exactly where its cause stands.
+pub fn check(cid: &Cid, bytes: &[u8]) -> Result<(), HashFault>
+    ensures valid { IsOk result ↔ IsValid cid.now bytes.now }
+    ensures unknown { (code : ℕ) → (result ≡ Err (HashFault.UnknownHash code)) ↔ IsUnknownHash cid.now code }
+    ensures mismatch { (got : List ℕ) → (result ≡ Err (HashFault.Mismatch got)) ↔ IsMismatch cid.now bytes.now got }
+    ensures not_identity { (at : ℕ) → (result ≡ Err (HashFault.NotIdentity at)) ↔ IsNotIdentity cid.now bytes.now at }
+{
+    let digest = cid.digest();
+    match cid.hash_code() {
+        HashCode::Identity => match first_difference(digest, bytes) {
+            None => Ok(()),
+            Some(at) => Err(HashFault::NotIdentity { at }),
+        },
+        HashCode::Sha2x256 if digest.len() == DIGEST_LEN => {
+            check_digest(digest, Sha256::digest(bytes))
+        }
+        HashCode::Blake2b256 if digest.len() == DIGEST_LEN => {
+            check_digest(digest, blake2b_256(bytes))
+        }
+        HashCode::Sha2x256 => Err(HashFault::UnknownHash {
+            code: HASH_SHA2_256,
+        }),
+        HashCode::Blake2b256 => Err(HashFault::UnknownHash {
+            code: HASH_BLAKE2B_256,
+        }),
+        HashCode::Other(code) => Err(HashFault::UnknownHash { code }),
+    }
+}

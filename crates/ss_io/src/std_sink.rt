@@ -1,0 +1,80 @@
+ghost use Rattle.std.specs.Prelude.{◌≡◌, ◌<◌, ◌≤◌, length, IfOk};
+ghost use Rattle.std.specs.Io.KnownBytes.{WriteAppends};
+ghost use Rattle.ss_io.specs.Written.{PutAppends};
+
+use crate::{Failed, Sink};
+use std::io::{ErrorKind, Write};
+
+/// A sink over a writer of std. A write that a signal interrupts is made again. One that takes nothing of
+/// bytes that are not empty has failed.
+#[derive(Drop)]
+pub struct StdSink<W: Write> {
+    inner: W,
+    faults: u64,
+}
+
+impl<W: Write> StdSink<W> {
+    /// A sink that has not failed yet.
+    pub fn new(inner: W) -> StdSink<W>
+        ensures written { ⟦<StdSink<W> as Sink>⟧.written result ≡ W.contents inner }
+        ensures faults { ⟦<StdSink<W> as Sink>⟧.faults result ≡ 0 }
+    {
+        StdSink { inner, faults: 0 }
+    }
+}
+
+impl<W: Write> Sink for StdSink<W> {
+    ghost written = { λ s. W.contents s.inner };
+
+    ghost faults = { λ s. s.faults };
+
+    fn put(&mut self, bytes: &[u8]) -> Result<(), Failed> {
+        let result = write_whole(&mut self.inner, bytes);
+        if result.is_err() {
+            self.faults = self.faults.saturating_add(1);
+        }
+        result
+    }
+
+    fn flush(&mut self) -> Result<(), Failed> {
+        match self.inner.flush() {
+            Ok(()) => Ok(()),
+            Err(_) => {
+                self.faults = self.faults.saturating_add(1);
+                Err(Failed)
+            }
+        }
+    }
+
+    fn faults(&self) -> u64 {
+        self.faults
+    }
+}
+
+// Writes on until nothing is left.
+fn write_whole<W: Write>(inner: &mut W, bytes: &[u8]) -> Result<(), Failed>
+    ensures { PutAppends (W.contents inner.old) (W.contents inner.new) result bytes.now }
+{
+    let mut rest = bytes;
+    while !rest.is_empty() {
+        let count = write_some(inner, rest)?;
+        rest = &rest[count..];
+    }
+    Ok(())
+}
+
+// One write that takes something, made again where a signal interrupts it.
+fn write_some<W: Write>(inner: &mut W, bytes: &[u8]) -> Result<usize, Failed>
+    ensures some { IfOk result (λ count. (0 < count) × (count ≤ length bytes.now)) }
+    ensures bytes { WriteAppends (W.contents inner.old) (W.contents inner.new) result bytes.now }
+{
+    for _ in 0..u64::MAX {
+        match inner.write(bytes) {
+            Ok(0) => return Err(Failed),
+            Ok(count) => return Ok(count),
+            Err(error) if error.kind() == ErrorKind::Interrupted => {}
+            Err(_) => return Err(Failed),
+        }
+    }
+    Err(Failed)
+}

@@ -1,0 +1,72 @@
+ghost use Rattle.std.specs.Prelude.{◌≡◌, [], IsTrue};
+ghost use Rattle.std.specs.Option.{ForSome};
+ghost use Rattle.std.specs.Io.{ReadsAtMost};
+ghost use Rattle.std.specs.Io.KnownBytes.{ReadConsumes};
+
+use crate::{Failed, Source};
+use std::io::{ErrorKind, Read};
+
+/// A source over a reader of std. A read that a signal interrupts is made again. Once the reader has said
+/// that the input has ended it is not asked again, so the end stays.
+#[derive(Drop)]
+pub struct StdSource<R: Read> {
+    inner: R,
+    ended: bool,
+    faults: u64,
+    ghost end_stays: { IsTrue ended → ForSome (R.remaining inner) (λ xs. xs ≡ []) },
+}
+
+impl<R: Read> StdSource<R> {
+    /// A source that has not failed yet.
+    pub fn new(inner: R) -> StdSource<R>
+        ensures left { ⟦<StdSource<R> as Source>⟧.left result ≡ R.remaining inner }
+        ensures faults { ⟦<StdSource<R> as Source>⟧.faults result ≡ 0 }
+    {
+        StdSource {
+            inner,
+            ended: false,
+            faults: 0,
+        }
+    }
+}
+
+impl<R: Read> Source for StdSource<R> {
+    ghost left = { λ s. R.remaining s.inner };
+
+    ghost faults = { λ s. s.faults };
+
+    fn read(&mut self, out: &mut [u8]) -> Result<usize, Failed> {
+        if self.ended {
+            return Ok(0);
+        }
+        match read_again(&mut self.inner, out) {
+            Ok(count) => {
+                self.ended = count == 0 && !out.is_empty();
+                Ok(count)
+            }
+            Err(failed) => {
+                self.faults = self.faults.saturating_add(1);
+                Err(failed)
+            }
+        }
+    }
+
+    fn faults(&self) -> u64 {
+        self.faults
+    }
+}
+
+// One read, made again where a signal interrupts it.
+fn read_again<R: Read>(inner: &mut R, out: &mut [u8]) -> Result<usize, Failed>
+    ensures bound { ReadsAtMost result out.new }
+    ensures bytes { ReadConsumes (R.remaining inner.old) (R.remaining inner.new) result out.new }
+{
+    for _ in 0..u64::MAX {
+        match inner.read(out) {
+            Ok(count) => return Ok(count),
+            Err(error) if error.kind() == ErrorKind::Interrupted => {}
+            Err(_) => return Err(Failed),
+        }
+    }
+    Err(Failed)
+}

@@ -1,0 +1,133 @@
+use super::*;
+use ss_cid::Bytes;
+use std::io;
+use std::io::Write;
+use std::test::Fail;
+
+// A writer that counts how often it is flushed.
+#[derive(Drop)]
+struct Flushes(u32);
+
+impl Write for Flushes {
+    fn write(&mut self, bytes: &[u8]) -> io::Result<usize> {
+        Ok(bytes.len())
+    }
+
+    fn flush(&mut self) -> io::Result<()> {
+        self.0 = self.0.saturating_add(1);
+        Ok(())
+    }
+}
+
+// What the next calls of a source answer in pieces of two bytes, and its count after them.
+fn reads<S: Source>(source: &mut S) -> ([Result<usize, Failed>; 5], u64) {
+    let mut out = [0u8; 2];
+    let answers = [
+        source.read(&mut out),
+        source.read(&mut out),
+        source.read(&mut out),
+        source.read(&mut out),
+        source.read(&mut out),
+    ];
+    (answers, source.faults())
+}
+
+// What two puts of two bytes, a flush and a put of one answer, and the count after them.
+fn puts<K: Sink>(sink: &mut K) -> ([Result<(), Failed>; 4], u64) {
+    let answers = [
+        sink.put(&[1, 2]),
+        sink.put(&[3, 4]),
+        sink.flush(),
+        sink.put(&[5]),
+    ];
+    (answers, sink.faults())
+}
+
+#[test]
+fn a_source_fails_at_its_listed_call_alone(rt: HostRuntime) -> Result<(), Fail> {
+    let failing = Err(Failed);
+    let table = [
+        (9, [Ok(2), Ok(2), Ok(1), Ok(0), Ok(0)], 0),
+        (0, [failing, Ok(2), Ok(2), Ok(1), Ok(0)], 1),
+        (1, [Ok(2), failing, Ok(2), Ok(1), Ok(0)], 1),
+        (2, [Ok(2), Ok(2), failing, Ok(1), Ok(0)], 1),
+    ];
+    for (call, answers, faults) in table {
+        let mut content = Bytes::new(rt.alloc());
+        content.extend(&[1, 2, 3, 4, 5])?;
+        let mut source = MemorySource::new(rt.alloc(), content);
+        source.fail_at(call)?;
+        assert_eq!(rt; reads(&mut source), (answers, faults), "at call {call}");
+    }
+    Ok(())
+}
+
+#[test]
+fn a_sink_fails_at_its_listed_call_alone(rt: HostRuntime) -> Result<(), Fail> {
+    let failing = Err(Failed);
+    let table = [
+        (
+            9,
+            [Ok(()), Ok(()), Ok(()), Ok(())],
+            0,
+            [1, 2, 3, 4, 5].as_slice(),
+        ),
+        (
+            0,
+            [failing, Ok(()), Ok(()), Ok(())],
+            1,
+            [3, 4, 5].as_slice(),
+        ),
+        (
+            1,
+            [Ok(()), failing, Ok(()), Ok(())],
+            1,
+            [1, 2, 5].as_slice(),
+        ),
+        (
+            2,
+            [Ok(()), Ok(()), failing, Ok(())],
+            1,
+            [1, 2, 3, 4, 5].as_slice(),
+        ),
+    ];
+    for (call, answers, faults, written) in table {
+        let mut sink = MemorySink::new(rt.alloc());
+        sink.fail_at(call)?;
+        assert_eq!(rt; puts(&mut sink), (answers, faults), "at call {call}");
+        assert_eq!(rt; sink.written(), written, "at call {call}");
+    }
+    Ok(())
+}
+
+#[test]
+fn ends_over_std(rt: HostRuntime) {
+    let content = [1u8, 2, 3, 4, 5];
+    let mut source = StdSource::new(content.as_slice());
+    assert_eq!(rt;
+        reads(&mut source),
+        ([Ok(2), Ok(2), Ok(1), Ok(0), Ok(0)], 0)
+    );
+
+    let mut written = Vec::new(rt.alloc());
+    let mut sink = StdSink::new(&mut written);
+    assert_eq!(rt; puts(&mut sink), ([Ok(()), Ok(()), Ok(()), Ok(())], 0));
+    drop(sink);
+    assert_eq!(rt; written.as_slice(), content.as_slice());
+
+    // A writer with room for three bytes takes nothing more.
+    let mut room = [0u8; 3];
+    let mut sink = StdSink::new(room.as_mut_slice());
+    assert_eq!(rt;
+        puts(&mut sink),
+        ([Ok(()), Err(Failed), Ok(()), Err(Failed)], 2)
+    );
+    drop(sink);
+    assert_eq!(rt; room, [1, 2, 3]);
+
+    let mut counter = Flushes(0);
+    let mut sink = StdSink::new(&mut counter);
+    assert_eq!(rt; puts(&mut sink), ([Ok(()), Ok(()), Ok(()), Ok(())], 0));
+    drop(sink);
+    assert_eq!(rt; counter.0, 1);
+}

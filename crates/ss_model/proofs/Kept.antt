@@ -1,0 +1,151 @@
+-- What is kept stays, and is valid.
+use Rattle.std.proofs.Common.{◌≡◌, ◌≢◌, ◌⊎◌, ⊎_elim, inl, inr, ℕ, zero, suc, Bool, true, false, cond, List, [], ◌∷◌, Option, Some, None, refl, sym, ap, ◌∙◌, subst, true≢false, arith}
+use Rattle.std.specs.Prelude.{is_some, slice_get}
+use Rattle.std.specs.Ordering.{nat_cmp, eq_by_cmp}
+use Rattle.std.specs.Cmp.{Equal-is, tied_itself}
+use Rattle.std.specs.Cmp.Lexicographic.{slice_cmp, nat_list_cmp_total}
+use Rattle.std.specs.FinMap as map
+use Rattle.std.specs.FinMap.{get-insert, get-empty, slice_cmp-IsAntisymmetric, nat_cmp-IsAntisymmetric}
+use Rattle.ss_cid.specs.Cid.{identity_of}
+use Rattle.ss_hash.specs.Digest.{IsValid}
+use Rattle.ss_model.specs.State.{Kept, State, empty_state}
+use Rattle.ss_model.specs.Lawful.{or_else, fetched, with_block, with_blocks, AreSound, IsPassed, Lawful, LawfulGet, after_put, After}
+use Rattle.ss_model.specs.History.{Legal, AfterAll}
+use Rattle.ss_model.specs.declared.call.Call.{Call}
+use Rattle.ss_model.specs.declared.call.Call.TheVariants as call
+use Rattle.ss_model.specs.declared.call.Answer.{Answer}
+use Rattle.ss_model.specs.declared.call.Answer.TheVariants as answer
+use Rattle.ss_model.specs.declared.call.ViewReply.TheVariants as view
+use Rattle.ss_model.specs.declared.call.PutReply.TheVariants as put
+use Rattle.ss_model.specs.declared.call.GetReply.{GetReply}
+use Rattle.ss_model.specs.declared.call.GetReply.TheVariants as get
+use Rattle.ss_model.specs.declared.call.Entry.{Entry}
+
+-- what an insert leaves at a CID: the new block there, and elsewhere what was
+inserted : (kept : Kept) (k v c : List ℕ) → ((c ≡ k) × (map.get (map.insert kept k v) c ≡ Some v)) ⊎ (map.get (map.insert kept k v) c ≡ map.get kept c)
+inserted kept k v c = go (eq_by_cmp (slice_cmp nat_cmp) c k) refl
+  where
+    go : (b : Bool) → eq_by_cmp (slice_cmp nat_cmp) c k ≡ b → ((c ≡ k) × (map.get (map.insert kept k v) c ≡ Some v)) ⊎ (map.get (map.insert kept k v) c ≡ map.get kept c)
+    go true e = inl (slice_cmp-IsAntisymmetric nat_cmp-IsAntisymmetric c k ((Equal-is (slice_cmp nat_cmp c k)).0 e), get-insert nat_list_cmp_total kept k v c ∙ ap (λ b. cond b (Some v) (map.get kept c)) e)
+    go false e = inr (get-insert nat_list_cmp_total kept k v c ∙ ap (λ b. cond b (Some v) (map.get kept c)) e)
+
+some_or : (id kept : Option (List ℕ)) (b : List ℕ) → kept ≡ Some b → is_some (or_else id kept) ≡ true
+some_or (Some d) kept b e = refl
+some_or None kept b e = ap is_some e
+
+inside : (x y : List ℕ) → Some x ≡ Some y → x ≡ y
+inside x y e = cc
+
+block_stays : (kept : Kept) (p : List ℕ × List ℕ) (c b : List ℕ) → map.get kept c ≡ Some b → map.get (with_block kept p) c ≡ Some b
+unfolding with_block fetched
+block_stays kept p c b is = go (is_some (or_else (identity_of p.0) (map.get kept p.0))) refl
+  where
+    go : (known : Bool) → is_some (or_else (identity_of p.0) (map.get kept p.0)) ≡ known → map.get (cond known kept (map.insert kept p.0 p.1)) c ≡ Some b
+    go true e = is
+    go false e = ⊎_elim
+        (λ (same : (c ≡ p.0) × (map.get (map.insert kept p.0 p.1) c ≡ Some p.1)). absurd (true≢false (sym (some_or (identity_of p.0) (map.get kept p.0) b (subst (λ k. map.get kept k ≡ Some b) same.0 is)) ∙ e)))
+        (λ (other : map.get (map.insert kept p.0 p.1) c ≡ map.get kept c). other ∙ is)
+        (inserted kept p.0 p.1 c)
+
+blocks_stay : (kept : Kept) (pairs : List (List ℕ × List ℕ)) (c b : List ℕ) → map.get kept c ≡ Some b → map.get (with_blocks kept pairs) c ≡ Some b
+blocks_stay kept [] c b is = is
+blocks_stay kept (p ∷ pairs) c b is = blocks_stay (with_block kept p) pairs c b (block_stays kept p c b is)
+
+-- only a put that stored changes what is kept, and its parcel passed
+step_stays : (s : State) (k : Call) (a : Answer) (P : Kept → Type 0) → P s.kept → ((v : ℕ) (pairs : List (List ℕ × List ℕ)) → (Lawful s k a → IsPassed s v pairs) → P (with_blocks s.kept pairs)) → P (After s k a).kept
+step_stays s call.OpenView (answer.View (view.Opened n)) P same more = same
+step_stays s call.OpenView (answer.View view.TooManyViews) P same more = same
+step_stays s call.OpenView (answer.Put r) P same more = same
+step_stays s call.OpenView (answer.Get r) P same more = same
+step_stays s (call.Put v pairs) (answer.View r) P same more = same
+step_stays s (call.Put v pairs) (answer.Get r) P same more = same
+step_stays s (call.Put v pairs) (answer.Put (put.Stored new)) P same more = more v pairs (λ lawful. lawful.0)
+step_stays s (call.Put v pairs) (answer.Put put.BadView) P same more = same
+step_stays s (call.Put v pairs) (answer.Put (put.TooMany n)) P same more = same
+step_stays s (call.Put v pairs) (answer.Put (put.TooBig n)) P same more = same
+step_stays s (call.Put v pairs) (answer.Put (put.TooLarge i)) P same more = same
+step_stays s (call.Put v pairs) (answer.Put (put.UnknownHash i)) P same more = same
+step_stays s (call.Put v pairs) (answer.Put (put.Mismatch i)) P same more = same
+step_stays s (call.Put v pairs) (answer.Put (put.Malformed i kind at)) P same more = same
+step_stays s (call.Put v pairs) (answer.Put put.NoMemory) P same more = same
+step_stays s (call.Get v c) (answer.View r) P same more = same
+step_stays s (call.Get v c) (answer.Put r) P same more = same
+step_stays s (call.Get v c) (answer.Get r) P same more = same
+
+pub stays : (s : State) (h : List Entry) (c b : List ℕ) → map.get s.kept c ≡ Some b → map.get (AfterAll s h).kept c ≡ Some b
+stays s [] c b is = is
+stays s (e ∷ h) c b is = stays (After s e.call e.answer) h c b (step_stays s e.call e.answer (λ kept. map.get kept c ≡ Some b) is (λ v pairs passed. blocks_stay s.kept pairs c b is))
+
+-- a CID that stands for a block goes on to
+
+known_more : (id kept more : Option (List ℕ)) → is_some (or_else id kept) ≡ true → ((b : List ℕ) → kept ≡ Some b → more ≡ Some b) → is_some (or_else id more) ≡ true
+known_more (Some d) kept more known stays = refl
+known_more None None more known stays = absurd (true≢false (sym known))
+known_more None (Some b) more known stays = ap is_some (stays b refl)
+
+known_stays : (kept : Kept) (p : List ℕ × List ℕ) (c : List ℕ) → is_some (fetched kept c) ≡ true → is_some (fetched (with_block kept p) c) ≡ true
+unfolding fetched
+known_stays kept p c known = known_more (identity_of c) (map.get kept c) (map.get (with_block kept p) c) known (λ b is. block_stays kept p c b is)
+
+known_here : (kept : Kept) (p : List ℕ × List ℕ) → is_some (fetched (with_block kept p) p.0) ≡ true
+unfolding with_block fetched
+known_here kept p = go (is_some (or_else (identity_of p.0) (map.get kept p.0))) refl
+  where
+    go : (known : Bool) → is_some (or_else (identity_of p.0) (map.get kept p.0)) ≡ known → is_some (or_else (identity_of p.0) (map.get (cond known kept (map.insert kept p.0 p.1)) p.0)) ≡ true
+    go true e = e
+    go false e = some_or (identity_of p.0) _ p.1 (get-insert nat_list_cmp_total kept p.0 p.1 p.0 ∙ ap (λ b. cond b (Some p.1) (map.get kept p.0)) ((Equal-is (slice_cmp nat_cmp p.0 p.0)).1 (tied_itself nat_list_cmp_total p.0)))
+
+all_stay : (kept : Kept) (pairs : List (List ℕ × List ℕ)) (c : List ℕ) → is_some (fetched kept c) ≡ true → is_some (fetched (with_blocks kept pairs) c) ≡ true
+all_stay kept [] c known = known
+all_stay kept (p ∷ pairs) c known = all_stay (with_block kept p) pairs c (known_stays kept p c known)
+
+known_after : (kept : Kept) (pairs : List (List ℕ × List ℕ)) (i : ℕ) (p : List ℕ × List ℕ) → slice_get pairs i ≡ Some p → is_some (fetched (with_blocks kept pairs) p.0) ≡ true
+known_after kept [] i p at = absurd (cc)
+known_after kept (q ∷ pairs) zero p at =
+    let same : q ≡ p = cc in
+    subst (λ r. is_some (fetched (with_blocks (with_block kept q) pairs) r.0) ≡ true) same (all_stay (with_block kept q) pairs q.0 (known_here kept q))
+known_after kept (q ∷ pairs) (suc i) p at = known_after (with_block kept q) pairs i p at
+
+known_on : (s : State) (h : List Entry) (c : List ℕ) → is_some (fetched s.kept c) ≡ true → is_some (fetched (AfterAll s h).kept c) ≡ true
+unfolding fetched
+known_on s h c known = known_more (identity_of c) (map.get s.kept c) (map.get (AfterAll s h).kept c) known (λ b is. stays s h c b is)
+
+pub found : (s : State) (pairs : List (List ℕ × List ℕ)) (new : ℕ) (between : List Entry) (i : ℕ) (p : List ℕ × List ℕ) (v : ℕ) (reply : GetReply) → slice_get pairs i ≡ Some p → LawfulGet (AfterAll (after_put s pairs (put.Stored new)) between) v p.0 reply → reply ≢ get.NotFound
+found s pairs new between i p v reply at lawful is =
+    let known = known_on (after_put s pairs (put.Stored new)) between p.0 (known_after s.kept pairs i p at) in
+    let none = subst (λ r. LawfulGet (AfterAll (after_put s pairs (put.Stored new)) between) v p.0 r) is lawful in
+    true≢false (sym known ∙ ap is_some none.1)
+
+-- what is kept is valid
+
+abbrev AreValid : Kept → Type 0
+AreValid kept = (c b : List ℕ) → map.get kept c ≡ Some b → IsValid c b
+
+block_valid : (kept : Kept) (p : List ℕ × List ℕ) → AreValid kept → IsValid p.0 p.1 → AreValid (with_block kept p)
+unfolding with_block
+block_valid kept p valid new = go (is_some (fetched kept p.0))
+  where
+    go : (known : Bool) → AreValid (cond known kept (map.insert kept p.0 p.1))
+    go true = valid
+    go false = λ c b is. ⊎_elim
+        (λ (same : (c ≡ p.0) × (map.get (map.insert kept p.0 p.1) c ≡ Some p.1)).
+        let block : p.1 ≡ b = inside p.1 b (sym same.1 ∙ is) in
+        subst (λ k. IsValid k b) (sym same.0) (subst (IsValid p.0) block new))
+        (λ (other : map.get (map.insert kept p.0 p.1) c ≡ map.get kept c). valid c b (sym other ∙ is))
+        (inserted kept p.0 p.1 c)
+
+blocks_valid : (kept : Kept) (pairs : List (List ℕ × List ℕ)) → AreValid kept → AreSound pairs → AreValid (with_blocks kept pairs)
+blocks_valid kept [] valid sound = valid
+blocks_valid kept (p ∷ pairs) valid sound =
+    blocks_valid (with_block kept p) pairs (block_valid kept p valid (sound 0 p (omega arith) refl).valid) (λ k q within at. sound (suc k) q (omega arith) at)
+
+history_valid : (s : State) (h : List Entry) → AreValid s.kept → Legal s h → AreValid (AfterAll s h).kept
+history_valid s [] valid legal = valid
+history_valid s (e ∷ h) valid legal =
+    history_valid (After s e.call e.answer) h (step_stays s e.call e.answer AreValid valid (λ v pairs passed. blocks_valid s.kept pairs valid (passed legal.0).sound)) legal.1
+
+pub kept_valid : (h : List Entry) (c b : List ℕ) → Legal empty_state h → map.get (AfterAll empty_state h).kept c ≡ Some b → IsValid c b
+kept_valid h c b legal is = history_valid empty_state h (λ k x none. absurd (nothing k x none)) legal c b is
+  where
+    nothing : (k x : List ℕ) → map.get (map.empty {X = List ℕ} {R = slice_cmp nat_cmp}) k ≡ Some x → ⊥
+    nothing k x none = true≢false (sym (ap is_some (sym (get-empty (slice_cmp nat_cmp) k) ∙ none)))

@@ -1,0 +1,160 @@
+-- Which answer to a call is lawful at a state, and the state after it.
+--
+-- Each call has a list of answers, and the lawful one is the first whose condition holds. Want of memory may stand in its
+-- place in that list whatever the state: it is free. Only an answer that is named with an effect changes the state.
+use Rattle.std.specs.Prelude.{◌≡◌, ℕ, ◌+◌, ◌-◌, ◌^◌, ◌<◌, ◌≤◌, min, max, Bool, true, false, List, [], ◌∷◌, length, Option, None, Some, if◌then◌else◌, is_some, IsOk, Err, slice_get, sum_by}
+use Rattle.std.specs.FinMap as map
+use Rattle.std.specs.FinSet as set
+use Rattle.ss_cid.specs.Cid.{codec_of, identity_of}
+use Rattle.ss_cbor.specs.Fault.{scanned}
+use Rattle.ss_cbor.specs.declared.fault.CborFault.{CborFault}
+use Rattle.ss_hash.specs.Digest.{IsValid, IsUnknownHash}
+use Rattle.ss_model.specs.State.{Kept, CidSet, State}
+use Rattle.ss_model.specs.declared.TheConstants.{VIEWS, PUT_BLOCKS, PUT_BYTES, BLOCK_BYTES}
+use Rattle.ss_model.specs.declared.call.Call.{Call}
+use Rattle.ss_model.specs.declared.call.Call.TheVariants as call
+use Rattle.ss_model.specs.declared.call.Answer.{Answer}
+use Rattle.ss_model.specs.declared.call.Answer.TheVariants as answer
+use Rattle.ss_model.specs.declared.call.ViewReply.{ViewReply}
+use Rattle.ss_model.specs.declared.call.ViewReply.TheVariants as view
+use Rattle.ss_model.specs.declared.call.PutReply.{PutReply}
+use Rattle.ss_model.specs.declared.call.PutReply.TheVariants as put
+use Rattle.ss_model.specs.declared.call.GetReply.{GetReply}
+use Rattle.ss_model.specs.declared.call.GetReply.TheVariants as get
+
+-- the view of this number is open
+abbrev pub is_open : State → ℕ → Bool
+is_open s v = set.contains s.views v
+
+-- the first of two blocks, if it is there
+abbrev pub or_else : Option (List ℕ) → Option (List ℕ) → Option (List ℕ)
+or_else (Some block) other = Some block
+or_else None other = other
+
+-- What a CID stands for in a store: an identity CID for its digest, and another for the bytes that are kept under it.
+unfoldable pub fetched : Kept → List ℕ → Option (List ℕ)
+fetched kept c = or_else (identity_of c) (map.get kept c)
+
+-- The block joins the kept ones, unless its CID stands for a block already: that one stays. So an identity CID is never kept.
+unfoldable pub with_block : Kept → List ℕ × List ℕ → Kept
+with_block kept p = if is_some (fetched kept p.0) then kept else map.insert kept p.0 p.1
+
+-- the blocks of a parcel join, in order
+abbrev pub with_blocks : Kept → List (List ℕ × List ℕ) → Kept
+with_blocks kept [] = kept
+with_blocks kept (p ∷ pairs) = with_blocks (with_block kept p) pairs
+
+-- a block is hot, unless its CID is an identity CID
+unfoldable pub with_hot_cid : CidSet → List ℕ → CidSet
+with_hot_cid hot c = if is_some (identity_of c) then hot else set.insert hot c
+
+-- the blocks of a parcel are hot
+abbrev pub with_hot : CidSet → List (List ℕ × List ℕ) → CidSet
+with_hot hot [] = hot
+with_hot hot (p ∷ pairs) = with_hot (with_hot_cid hot p.0) pairs
+
+-- how many bytes are kept under a CID
+abbrev pub length_of : Option (List ℕ) → ℕ
+length_of None = 0
+length_of (Some block) = length block
+
+-- the bytes that one pair takes of a put: its CID, a length of four bytes, and its block or the one that is kept, the longer
+abbrev pub pair_bytes : Kept → List ℕ × List ℕ → ℕ
+pair_bytes kept p = length p.0 + 4 + max (length p.1) (length_of (map.get kept p.0))
+
+-- the bytes of a put
+abbrev pub put_bytes : Kept → List (List ℕ × List ℕ) → ℕ
+put_bytes kept pairs = 3 + sum_by (pair_bytes kept) pairs
+
+-- a CID and its block are no longer together than a block may be
+abbrev pub IsSmall : List ℕ × List ℕ → Type 0
+IsSmall p = length p.0 + length p.1 ≤ BLOCK_BYTES
+
+-- the codec dag-cbor
+abbrev pub IsDagCbor : List ℕ → Type 0
+IsDagCbor c = codec_of c ≡ 0x71
+
+-- the pair may be stored: small, valid, and under dag-cbor one item
+pub record IsSound (p : List ℕ × List ℕ) : Type 0 where
+  pub small : IsSmall p
+  pub valid : IsValid p.0 p.1
+  pub item : IsDagCbor p.0 → IsOk (scanned p.1)
+
+-- all pairs may be stored
+abbrev pub AreSound : List (List ℕ × List ℕ) → Type 0
+AreSound pairs = (k : ℕ) (q : List ℕ × List ℕ) → k < length pairs → slice_get pairs k ≡ Some q → IsSound q
+
+-- the pair at this place is refused so
+abbrev pub IsPairFault : ℕ → List ℕ × List ℕ → PutReply → Type 0
+IsPairFault at p (put.TooLarge i) = (i ≡ at) × (BLOCK_BYTES < length p.0 + length p.1)
+IsPairFault at p (put.UnknownHash i) = (i ≡ at) × IsSmall p × ((code : ℕ) × IsUnknownHash p.0 code)
+IsPairFault at p (put.Mismatch i) = (i ≡ at) × IsSmall p × ((code : ℕ) → ¬ IsUnknownHash p.0 code) × ¬ IsValid p.0 p.1
+IsPairFault at p (put.Malformed i kind place) = (i ≡ at) × IsSmall p × IsValid p.0 p.1 × IsDagCbor p.0 × ((fault : CborFault) × (scanned p.1 ≡ Err fault) × (kind ≡ fault.kind) × (place ≡ min fault.at (2 ^ 32 - 1)))
+IsPairFault at p _ = ⊥
+
+-- the first pair that may not be stored is refused so
+pub record IsFirstFault (pairs : List (List ℕ × List ℕ)) (refusal : PutReply) : Type 0 where
+  pub at : ℕ
+  pub pair : List ℕ × List ℕ
+  pub stands : slice_get pairs at ≡ Some pair
+  pub fault : IsPairFault at pair refusal
+  pub before : (k : ℕ) (q : List ℕ × List ℕ) → k < at → slice_get pairs k ≡ Some q → IsSound q
+
+-- the view is open, and the parcel neither has too many blocks nor is too big
+pub record IsFitting (s : State) (v : ℕ) (pairs : List (List ℕ × List ℕ)) : Type 0 where
+  pub view : is_open s v ≡ true
+  pub few : length pairs ≤ PUT_BLOCKS
+  pub bytes : put_bytes s.kept pairs ≤ PUT_BYTES
+
+-- state and parcel refuse the put so
+abbrev pub IsPutRefusal : State → ℕ → List (List ℕ × List ℕ) → PutReply → Type 0
+IsPutRefusal s v pairs put.BadView = is_open s v ≡ false
+IsPutRefusal s v pairs (put.TooMany n) = (is_open s v ≡ true) × (PUT_BLOCKS < length pairs) × (n ≡ length pairs)
+IsPutRefusal s v pairs (put.TooBig n) = (is_open s v ≡ true) × (length pairs ≤ PUT_BLOCKS) × (PUT_BYTES < put_bytes s.kept pairs) × (n ≡ min (put_bytes s.kept pairs) (2 ^ 64 - 1))
+IsPutRefusal s v pairs refusal = IsFitting s v pairs × IsFirstFault pairs refusal
+
+-- state and parcel let the put pass
+pub record IsPassed (s : State) (v : ℕ) (pairs : List (List ℕ × List ℕ)) : Type 0 where
+  pub fitting : IsFitting s v pairs
+  pub sound : AreSound pairs
+
+-- the least number below the limit that is no open view's, if there is one
+abbrev pub LawfulView : State → ViewReply → Type 0
+LawfulView s (view.Opened n) = (n < VIEWS) × (is_open s n ≡ false) × ((k : ℕ) → k < n → is_open s k ≡ true)
+LawfulView s view.TooManyViews = (k : ℕ) → k < VIEWS → is_open s k ≡ true
+
+-- so many blocks of the parcel are new
+abbrev pub LawfulAdd : State → List (List ℕ × List ℕ) → ℕ → Type 0
+LawfulAdd s pairs new = map.len s.kept + new ≡ map.len (with_blocks s.kept pairs)
+
+abbrev pub LawfulPut : State → ℕ → List (List ℕ × List ℕ) → PutReply → Type 0
+LawfulPut s v pairs put.NoMemory = IsPassed s v pairs
+LawfulPut s v pairs (put.Stored new) = IsPassed s v pairs × LawfulAdd s pairs new
+LawfulPut s v pairs refusal = IsPutRefusal s v pairs refusal
+
+abbrev pub LawfulGet : State → ℕ → List ℕ → GetReply → Type 0
+LawfulGet s v c get.BadView = is_open s v ≡ false
+LawfulGet s v c get.NotFound = (is_open s v ≡ true) × (fetched s.kept c ≡ None)
+LawfulGet s v c get.NoMemory = (is_open s v ≡ true) × (is_some (fetched s.kept c) ≡ true)
+LawfulGet s v c (get.Found block) = (is_open s v ≡ true) × (fetched s.kept c ≡ Some block)
+
+-- the answer is lawful for this call at this state
+abbrev pub Lawful : State → Call → Answer → Type 0
+Lawful s call.OpenView (answer.View r) = LawfulView s r
+Lawful s (call.Put v pairs) (answer.Put r) = LawfulPut s v pairs r
+Lawful s (call.Get v c) (answer.Get r) = LawfulGet s v c r
+Lawful s _ _ = ⊥
+
+abbrev pub after_view : State → ViewReply → State
+after_view s (view.Opened n) = record s { views = set.insert s.views n }
+after_view s view.TooManyViews = s
+
+abbrev pub after_put : State → List (List ℕ × List ℕ) → PutReply → State
+after_put s pairs (put.Stored new) = record s { kept = with_blocks s.kept pairs; hot = with_hot s.hot pairs }
+after_put s pairs _ = s
+
+-- the state after the answer
+abbrev pub After : State → Call → Answer → State
+After s call.OpenView (answer.View r) = after_view s r
+After s (call.Put v pairs) (answer.Put r) = after_put s pairs r
+After s _ _ = s

@@ -1,0 +1,119 @@
+use ss_cbor::CborKind;
+use ss_cid::{Bytes, Cid, Parcel};
+
+/// What a client asks of the store.
+#[derive(Drop)]
+pub enum Call {
+    /// Opens a view, a numbered session.
+    OpenView,
+    /// Stores the blocks of a parcel.
+    Put {
+        /// The view under which the call is made.
+        view: u32,
+        /// The blocks, each under its CID.
+        parcel: Parcel,
+    },
+    /// Reads a block.
+    Get {
+        /// The view under which the call is made.
+        view: u32,
+        /// The block's CID.
+        cid: Cid,
+    },
+}
+
+/// What the store answers to a call.
+#[derive(Drop)]
+pub enum Answer {
+    /// The answer to `Call::OpenView`.
+    View(ViewReply),
+    /// The answer to `Call::Put`.
+    Put(PutReply),
+    /// The answer to `Call::Get`.
+    Get(GetReply),
+}
+
+/// The answer to `Call::OpenView`.
+#[derive(Clone, Copy, Debug, PartialEq, Eq)]
+pub enum ViewReply {
+    /// The view is open under this number, the least that was not open.
+    Opened(u32),
+    /// All views are open.
+    TooManyViews,
+}
+
+/// The answer to `Call::Put`. After every answer but `Stored` the store is as it was.
+#[derive(Clone, Copy, Debug, PartialEq, Eq)]
+pub enum PutReply {
+    /// The view is not open.
+    BadView,
+    /// The parcel has more than `PUT_BLOCKS` pairs.
+    TooMany {
+        /// How many it has.
+        n: u32,
+    },
+    /// The parcel takes more than `PUT_BYTES`: 3, and for each pair the bytes of its CID, 4, and those of its block or of
+    /// the one that is kept under the CID, whichever is longer.
+    TooBig {
+        /// How many it takes, 2^64 - 1 at the most.
+        bytes: u64,
+    },
+    /// A CID and its block have more than `BLOCK_BYTES` together. Here and below, `i` is the place from 0 of the first pair
+    /// of the parcel that has a fault, and of one pair's faults the first in this order is named.
+    TooLarge {
+        /// The place of the pair.
+        i: u32,
+    },
+    /// A CID's hash function is none that the store knows, or its digest is not of that function's length.
+    UnknownHash {
+        /// The place of the pair.
+        i: u32,
+    },
+    /// The bytes of a block are not those that its CID names.
+    Mismatch {
+        /// The place of the pair.
+        i: u32,
+    },
+    /// A block under a dag-cbor CID is not one item.
+    Malformed {
+        /// The place of the pair.
+        i: u32,
+        /// What is wrong.
+        kind: CborKind,
+        /// The place in the block, from 0.
+        at: u32,
+    },
+    /// The store ran out of memory.
+    NoMemory,
+    /// All blocks of the parcel are kept.
+    Stored {
+        /// How many of them were not kept before.
+        new: u32,
+    },
+}
+
+/// The answer to `Call::Get`.
+#[derive(Drop)]
+pub enum GetReply {
+    /// The view is not open.
+    BadView,
+    /// The block is not kept.
+    NotFound,
+    /// The store ran out of memory.
+    NoMemory,
+    /// The block's bytes.
+    Found(Bytes),
+}
+
+/// One line of a history: who made which call, and what the store answered.
+#[derive(Drop)]
+pub struct Entry {
+    /// The client, or `COMPACTOR`.
+    pub client: u8,
+    /// The line of the client's script that holds the call, from 1; 0 for the compactor.
+    pub line: u32,
+    /// The call.
+    pub call: Call,
+    /// The answer.
+    pub answer: Answer,
+}

@@ -90,10 +90,17 @@ pub record Made (lines : List Line) (old new : Option (List ℕ)) (had has : ℕ
   pub sound : refused ≡ false → has ≡ had
   pub rose : refused ≡ true → Rose had has
 
--- a status of a bad line or of too long a script has its cause in the script
+-- want of memory, or a fault of an end
+abbrev pub IsFree : ℕ → Type 0
+IsFree status = (status ≡ 3) ⊎ ((status ≡ 4) ⊎ (status ≡ 5))
+
+-- Statuses 9 and 13 come just where the script has a bad line or is too long, but for want of memory and faults of the
+-- ends: 3, 4 and 5.
 pub record RefusesScript (script : List ℕ) (status : ℕ) : Type 0 where
   pub bad : status ≡ 9 → (length script ≤ SCRIPT_BYTES) × IsErr (script_of script)
   pub long : status ≡ 13 → SCRIPT_BYTES < length script
+  pub from_bad : length script ≤ SCRIPT_BYTES → IsErr (script_of script) → (status ≡ 9) ⊎ IsFree status
+  pub from_long : SCRIPT_BYTES < length script → (status ≡ 13) ⊎ IsFree status
 
 -- Nothing stands in the way of a run of `trace`: the words are of the form, the script is told, no longer than it may be,
 -- and asks for these lines, and no count of faults rises.

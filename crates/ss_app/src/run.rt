@@ -1,6 +1,6 @@
 //! The top call.
 
-ghost use Rattle.std.specs.Prelude.{◌≡◌, ◌<◌, ◌+◌, ◌^◌, ℕ, List, [], ◌∷◌, ◌++◌, Option, replicate, map, string_bytes, false, Some, IsSome, IfOk, All, ◌⊎◌};
+ghost use Rattle.std.specs.Prelude.{◌≡◌, ◌<◌, ◌+◌, ◌^◌, ℕ, List, [], ◌∷◌, ◌++◌, Option, replicate, map, string_bytes, false, None, Some, IsSome, IfOk, All, ◌⊎◌};
 ghost use Rattle.ss_model.specs.State.{empty_state};
 ghost use Rattle.ss_app.specs.declared.script.Line.{Line};
 ghost use Rattle.ss_app.specs.Progress.{Progress, Stepped};
@@ -55,7 +55,7 @@ pub fn run_alone<S: Source, K: Sink>(
 
     // The refusals come just where the words and the script call for them, but for want of memory and faults of the ends.
     ensures usage { (result ≡ 2 → IsSome (bad_word (map string_bytes words.now))) × (IsSome (bad_word (map string_bytes words.now)) → (result ≡ 2) ⊎ (result ≡ 5)) }
-    ensures bad_script { (script : List ℕ) → S.left source.old ≡ Some script → RefusesScript script result }
+    ensures script { (script : List ℕ) → bad_word (map string_bytes words.now) ≡ None → S.left source.old ≡ Some script → RefusesScript script result }
     ensures complete { (script : List ℕ) (lines : List Line) → IsValidRun (map string_bytes words.now) (S.left source.old) (S.faults source.old) (S.faults source.new) (K.faults sink.old) (K.faults sink.new) script lines → (result ≡ 0) ⊎ (result ≡ 3) }
 {
     match bad_word(words) {
@@ -95,7 +95,7 @@ fn finish<K: Sink>(sink: &mut K, ending: Ending) -> u8
 
 // A run of a script: its store, the views of its clients, how many entries were made, and whether the sink has refused a
 // line. From then on nothing is printed, and the calls that are left are still made.
-#[derive(Drop)]
+#[derive(Debug, Drop)]
 struct Session {
     store: Store,
     views: Views,

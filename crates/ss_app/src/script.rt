@@ -14,7 +14,7 @@ use std::alloc::{AllocFailed, Global};
 use std::str;
 
 /// A call as a script line asks for it. The view is the client's own count of its `open` lines, from 0.
-#[derive(Drop)]
+#[derive(Debug, Drop)]
 pub enum ScriptCall {
     OpenView,
     Put { view: u32, parcel: Parcel },
@@ -22,7 +22,7 @@ pub enum ScriptCall {
 }
 
 /// A script line that holds a call.
-#[derive(Drop)]
+#[derive(Debug, Drop)]
 pub struct Line {
     pub client: u8,
     /// The line's number, from 1.

@@ -7,7 +7,7 @@ use std::alloc::Global;
 use std::marker::Model;
 
 /// A store whose blocks are a list in memory.
-#[derive(Drop)]
+#[derive(Debug, Drop)]
 pub struct Store {
     blocks: Vec<(Cid, Bytes)>,
     views: u32,

@@ -1,5 +1,6 @@
+use super::blocks::{BlockFault, check_block};
 use super::run_alone;
-use ss_cid::Bytes;
+use ss_cid::{Bytes, Cid};
 use ss_io::{MemorySink, MemorySource};
 use std::alloc::Global;
 use std::test::Fail;
@@ -182,5 +183,50 @@ fn a_script_that_is_too_long(rt: HostRuntime) -> Result<(), Fail> {
         assert_eq!(rt; sink.written(), line.as_bytes());
         let _ = script.pop();
     }
+    Ok(())
+}
+
+#[test]
+fn puts_that_are_too_big(rt: HostRuntime) -> Result<(), Fail> {
+    let mut script = String::from_str(rt.alloc(), "0 open\n0 put 0")?;
+    for _ in 0..1025 {
+        script.push_str(" bafkqaaa -")?;
+    }
+    // The CID of 7,000,000 zero bytes, which count for each pair that names it once they are kept.
+    let zeros = "01551220a93b7ad03c9729e20b2695660db0e74326b26744834f575d5252f1b4d2dd6299";
+    script.push_str("\n0 put 0 ")?;
+    script.push_str(zeros)?;
+    script.push(' ')?;
+    for _ in 0..14000000 {
+        script.push('0')?;
+    }
+    script.push_str("\n0 put 0")?;
+    for _ in 0..3 {
+        script.push(' ')?;
+        script.push_str(zeros)?;
+        script.push_str(" -")?;
+    }
+    let (status, written) = run(rt.alloc(), &["trace"], script.as_str(), None, None)?;
+    assert_eq!(rt;
+        written.as_str(),
+        "1 0 1 open = opened 0\n2 0 2 put 0 = too-many 1025\n3 0 3 put 0 = stored 1\n4 0 4 put 0 = too-big 21000123\n"
+    );
+    assert_eq!(rt; status, 0);
+    Ok(())
+}
+
+#[test]
+fn a_block_that_is_too_large(rt: HostRuntime) -> Result<(), Fail> {
+    let (cid, _) = Cid::parse(&[1, 0x55, 0, 0])?;
+    let mut block = vec![in rt.alloc(); 0u8; 8388605]?;
+    assert_eq!(rt;
+        check_block(&cid, block.as_slice()),
+        Err(BlockFault::TooLarge)
+    );
+    let _ = block.pop();
+    assert_eq!(rt;
+        check_block(&cid, block.as_slice()),
+        Err(BlockFault::Mismatch)
+    );
     Ok(())
 }

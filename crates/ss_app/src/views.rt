@@ -11,7 +11,7 @@ use std::alloc::Global;
 use std::marker::Model;
 
 /// What the `open` lines of each client were given: the number of a view, or `NO_VIEW`.
-#[derive(Drop)]
+#[derive(Debug, Drop)]
 pub struct Views {
     by_client: Vec<Vec<u32>>,
 }

@@ -2,7 +2,7 @@ use ss_cbor::CborKind;
 use ss_cid::{Bytes, Cid, Parcel};
 
 /// What a client asks of the store.
-#[derive(Drop)]
+#[derive(Debug, Drop)]
 pub enum Call {
     /// Opens a view, a numbered session.
     OpenView,
@@ -23,7 +23,7 @@ pub enum Call {
 }
 
 /// What the store answers to a call.
-#[derive(Drop)]
+#[derive(Debug, Drop)]
 pub enum Answer {
     /// The answer to `Call::OpenView`.
     View(ViewReply),
@@ -93,7 +93,7 @@ pub enum PutReply {
 }
 
 /// The answer to `Call::Get`.
-#[derive(Drop)]
+#[derive(Debug, Drop)]
 pub enum GetReply {
     /// The view is not open.
     BadView,
@@ -106,7 +106,7 @@ pub enum GetReply {
 }
 
 /// One line of a history: who made which call, and what the store answered.
-#[derive(Drop)]
+#[derive(Debug, Drop)]
 pub struct Entry {
     /// The client, or `COMPACTOR`.
     pub client: u8,

@@ -1,0 +1,5 @@
+pub mod Goes
+pub mod Moments
+mod Images
+mod Stories
+mod Writes

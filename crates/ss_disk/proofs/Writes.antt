@@ -1,0 +1,44 @@
+-- What a write does to a disk in memory, whether it joined the record or found no memory.
+use Rattle.std.proofs.Common.{◌≡◌, inl, inr, ⊎_elim, ℕ, ◌≤◌, List, ◌++◌, ◌∷◌, [], length, take, Vec, sym, ◌∙◌, ap, subst, arith}
+use Rattle.std.specs.Prelude.{slice_index}
+use Rattle.std.specs.declared.alloc.Global.{Global}
+use Rattle.ss_disk.specs.declared.memory.MemoryDisk.{MemoryDisk}
+use Rattle.ss_disk.specs.declared.memory.call.DeviceCall.{DeviceCall}
+use Rattle.ss_disk.specs.declared.memory.call.DeviceCall.TheVariants.{Wrote}
+use Rattle.ss_disk.specs.Disk.{Holds, Torn, Changes, Evolves}
+use Rattle.ss_disk.specs.Memory.{contents, Image}
+use Rattle.ss_disk.specs.MemoryDisk.{files_of, moment_of, image_of, Stays, Puts, Writes}
+use Rattle.ss_disk.proofs.Moments.{stays}
+use Rattle.ss_disk.proofs.Stories.{changes_torn, changes_torn_same, evolves_wrote}
+
+-- the same, where only known lengths or the count of faults changed since
+pub writes_along : (file at len : ℕ) (old mid new : MemoryDisk) → Writes file at len old mid → new.first ≡ mid.first → new.current ≡ mid.current → new.calls.items ≡ mid.calls.items → Writes file at len old new
+writes_along file at len old mid new writes first current calls = record {
+  first = first ∙ writes.first;
+  cases = ⊎_elim
+      (λ (s : Stays old mid). inl record { calls = calls ∙ s.calls; files = λ g. ap (λ (l : List (Vec ℕ Global)). contents l g) current ∙ s.files g })
+      (λ (p : Puts file at len old mid). inr record {
+        left = p.left;
+        missing = p.missing;
+        length_is = p.length_is;
+        calls = calls ∙ p.calls;
+        files = subst (λ (l : List (Vec ℕ Global)). Changes file (Holds at p.left.items) (files_of old) (contents l)) (sym current) p.files;
+      })
+      writes.cases;
+}
+
+pub writes_torn : (file at len : ℕ) (old new : MemoryDisk) → at ≤ slice_index old.known file → Writes file at len old new → Changes file (Torn at len) (files_of old) (files_of new)
+writes_torn file at len old new place writes = ⊎_elim
+    (λ (s : Stays old new). record {
+      here = subst (Torn at len (files_of old file)) (sym (s.files file)) (changes_torn_same file at len (files_of old)).here;
+      elsewhere = λ g other. s.files g;
+    })
+    (λ (p : Puts file at len old new). changes_torn file at len p.left.items (files_of old) (files_of new) (omega (arith, old.replays.within file)) (omega (arith, p.length_is)) p.files)
+    writes.cases
+
+pub writes_evolves : (file at len : ℕ) (old new : MemoryDisk) → Writes file at len old new → Evolves (moment_of old) (image_of old) (moment_of new) (image_of new) (Changes file (Torn at len))
+writes_evolves file at len old new writes =
+    subst (λ (f : List (Vec ℕ Global)). Evolves (moment_of old) (image_of old) (moment_of new) (λ t. Image f (take t new.calls.items)) (Changes file (Torn at len))) (sym writes.first) (⊎_elim
+    (λ (s : Stays old new). subst (λ (l : List DeviceCall). Evolves (moment_of old) (image_of old) (length l) (λ t. Image old.first (take t l)) (Changes file (Torn at len))) (sym s.calls) (stays (moment_of old) (image_of old) (Changes file (Torn at len)) (changes_torn_same file at len)))
+    (λ (p : Puts file at len old new). subst (λ (l : List DeviceCall). Evolves (moment_of old) (image_of old) (length l) (λ t. Image old.first (take t l)) (Changes file (Torn at len))) (sym p.calls) (subst (λ (n : ℕ). Evolves (moment_of old) (image_of old) (length (old.calls.items ++ Wrote file at p.left p.missing ∷ [])) (λ t. Image old.first (take t (old.calls.items ++ Wrote file at p.left p.missing ∷ []))) (Changes file (Torn at n))) p.length_is (evolves_wrote old.first old.current old.known old.calls.items old.replays file at p.left p.missing)))
+    writes.cases)

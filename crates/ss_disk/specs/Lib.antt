@@ -1,0 +1,6 @@
+pub mod Calls
+pub mod Disk
+pub mod FolderDisk
+pub mod Memory
+pub mod MemoryDisk
+pub mod MemoryLaws

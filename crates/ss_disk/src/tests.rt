@@ -1,0 +1,129 @@
+ghost use Rattle.std.specs.Prelude.{◌<◌};
+
+use super::*;
+use std::alloc::Global;
+use std::fs;
+use std::test::Fail;
+
+// The first bytes of a file, with `ee` past its end.
+fn front<const N: usize, D: Disk>(disk: &mut D, file: u8) -> Result<[u8; N], DiskFault>
+    requires file { file < 6 }
+    requires few { N < 100 }
+{
+    let mut out = [0xee; N];
+    let len = disk.size(file)?.min(N as u64) as usize;
+    disk.read(file, 0, &mut out[..len])?;
+    Ok(out)
+}
+
+// What five calls answer, and the count after them.
+fn answers<D: Disk>(disk: &mut D) -> ([bool; 5], u64) {
+    let answers = [
+        disk.size(3).is_ok(),
+        disk.write(3, 0, &[1, 2, 3, 4]).is_ok(),
+        disk.read(3, 0, &mut []).is_ok(),
+        disk.sync(3).is_ok(),
+        disk.size(3).is_ok(),
+    ];
+    (answers, disk.faults())
+}
+
+#[test]
+fn a_listed_call_fails(rt: HostRuntime) -> Result<(), Fail> {
+    // The listed call, the answers, the count, and what a read gives then: a failed write leaves its range torn.
+    let table = [
+        (9, [true, true, true, true, true], 0, [1, 2, 3, 4]),
+        (0, [false, true, true, true, true], 1, [1, 2, 3, 4]),
+        (1, [true, false, true, true, true], 1, [1, 2, 3, 4]),
+        (2, [true, true, false, true, true], 1, [1, 2, 3, 4]),
+        (3, [true, true, true, false, true], 1, [1, 2, 3, 4]),
+        (4, [true, true, true, true, false], 1, [1, 2, 3, 4]),
+    ];
+    for (call, expected, faults, bytes) in table {
+        let mut disk = MemoryDisk::new(rt.alloc())?;
+        disk.fail_at(call)?;
+        assert_eq!(rt; answers(&mut disk), (expected, faults), "at call {call}");
+        assert_eq!(rt; disk.calls(), 5);
+        assert_eq!(rt; front(&mut disk, 3)?, bytes, "at call {call}");
+    }
+    Ok(())
+}
+
+// Threads hand their disk on.
+fn is_send<T: Send>(_disk: &T) {}
+
+// A disk that wrote file 0 twice, and synced it between.
+fn half_synced(alloc: Global) -> Result<MemoryDisk, Fail> {
+    let mut disk = MemoryDisk::new(alloc)?;
+    disk.write(0, 0, &[1, 2, 3])?;
+    disk.sync(0)?;
+    disk.write(0, 0, &[4, 5, 6, 7])?;
+    Ok(disk)
+}
+
+#[test]
+fn a_crash_leaves_what_its_number_picks(rt: HostRuntime) -> Result<(), Fail> {
+    let disk = half_synced(rt.alloc())?;
+    is_send(&disk);
+    // After how many calls, the number, and what file 0 holds then.
+    let table = [
+        (0, 1, [0xee, 0xee, 0xee, 0xee]),
+        (1, 0, [0xee, 0xee, 0xee, 0xee]),
+        (1, 1, [1, 2, 3, 0xee]),
+        (1, 2, [1, 0xee, 0xee, 0xee]),
+        (1, 3, [0xa5, 0xa5, 0xa5, 0xee]),
+        (2, 0, [1, 2, 3, 0xee]),
+        (2, 3, [1, 2, 3, 0xee]),
+        (3, 0, [1, 2, 3, 0xee]),
+        (3, 1, [4, 5, 6, 7]),
+        (3, 2, [4, 5, 3, 0xee]),
+        (3, 3, [0xa5, 0xa5, 0xa5, 0xa5]),
+    ];
+    for (call, choice, bytes) in table {
+        assert!(rt; call <= disk.calls());
+        let mut left = disk.crash_at(rt.alloc(), call, choice)?;
+        assert_eq!(rt;
+            front(&mut left, 0)?,
+            bytes,
+            "after {call} calls, choice {choice}"
+        );
+    }
+    let mut left = disk.crash(rt.alloc(), 2)?;
+    assert_eq!(rt; (left.calls(), left.faults()), (0, 0));
+    assert_eq!(rt; front(&mut left, 0)?, [4, 5, 3, 0xee]);
+    Ok(())
+}
+
+#[test]
+fn a_folder_keeps_six_files(rt: HostRuntime) -> Result<(), Fail> {
+    let names = [
+        (0, "hot-a.log"),
+        (1, "hot-b.log"),
+        (2, "cold-a.log"),
+        (3, "cold-b.log"),
+        (4, "meta.log"),
+        (5, "move.log"),
+    ];
+    let mut disk = FolderDisk::new(rt.alloc(), rt.clone()?, ".")?;
+    for (file, name) in names {
+        assert!(rt; file < 6);
+        assert_eq!(rt; disk.size(file)?, 0);
+        disk.write(file, 0, &[6, 7, 8])?;
+        disk.write(file, 0, &[9])?;
+        disk.sync(file)?;
+        assert_eq!(rt; fs::read(&rt, name)?.as_slice(), [9, 7, 8].as_slice());
+    }
+    let mut again = FolderDisk::new(rt.alloc(), rt.clone()?, ".")?;
+    is_send(&again);
+    assert_eq!(rt; front(&mut again, 4)?, [9, 7, 8, 0xee]);
+    assert_eq!(rt; again.faults(), 0);
+
+    // A file that lost bytes that were known to be there.
+    fs::write(&rt, "meta.log", [9])?;
+    assert_eq!(rt; front::<4, _>(&mut again, 4), Err(DiskFault));
+    assert_eq!(rt; again.faults(), 1);
+
+    let mut nowhere = FolderDisk::new(rt.alloc(), rt.clone()?, "nowhere")?;
+    assert_eq!(rt; answers(&mut nowhere), ([false; 5], 5));
+    Ok(())
+}

@@ -1,0 +1,5 @@
+mod Bytes
+mod Lists
+mod Logs
+mod Steps
+mod Walks

@@ -1,0 +1,37 @@
+ghost use Rattle.std.specs.Prelude.{◌≡◌};
+ghost use Rattle.ss_gatelog.specs.declared.fault.LogFault.TheVariants.{DiskFault};
+
+use std::error::Error;
+use std::fmt;
+
+/// Why a call of a log failed.
+#[derive(Clone, Copy, Debug, PartialEq, Eq)]
+pub enum LogFault {
+    /// The disk's count of faults rose.
+    DiskFault,
+    /// A record would take `need` bytes, its gate and length among them, and there is room for
+    /// `room`.
+    LogFull { need: u64, room: u64 },
+    /// An open gate stands at `at`, and no record fits behind it.
+    Damaged { at: u64 },
+}
+
+impl fmt::Display for LogFault {
+    fn fmt<W: fmt::Write>(&self, f: &mut fmt::Formatter<W>) -> fmt::Result {
+        match self {
+            LogFault::DiskFault => write!(f, "disk fault"),
+            LogFault::LogFull { need, room } => write!(f, "log full {need} {room}"),
+            LogFault::Damaged { at } => write!(f, "damaged {at}"),
+        }
+    }
+}
+
+impl Error for LogFault {}
+
+impl From<ss_disk::DiskFault> for LogFault {
+    ghost from_gives = { λ _ fault. fault ≡ DiskFault };
+
+    fn from(_fault: ss_disk::DiskFault) -> Self {
+        LogFault::DiskFault
+    }
+}

@@ -1,0 +1,36 @@
+// A frame: four bytes for the length, the body, and a byte for the gate behind it.
+ghost use Rattle.std.specs.Prelude.{◌≡◌, ◌+◌, ◌^◌, ◌<◌, ◌≤◌, ◌∷◌, ◌++◌, [], ℕ, length};
+ghost use Rattle.ss_gatelog.specs.Log.{longest_body, length_bytes};
+ghost use Rattle.ss_gatelog.specs.GateLog.{body_of};
+
+/// The gate of a committed record.
+pub(crate) const OPEN: u8 = 0xa5;
+
+/// The gate that the writer closes with. Every byte but the open one is closed too.
+pub(crate) const CLOSED: u8 = 0x00;
+
+/// A gate and a length.
+pub(crate) const HEAD: u64 = 5;
+
+/// The most bytes of a body: 16 MiB.
+pub(crate) const LONGEST_BODY: u32 = 16_777_216;
+
+/// Writes the length of the body before it, and a closed gate behind it.
+pub(crate) fn seal(frame: &mut [u8])
+    requires frame { 5 ≤ length frame.old }
+    requires body { length frame.old ≤ longest_body + 5 }
+    ensures sealed { frame.new ≡ length_bytes (length (body_of frame.old)) ++ (body_of frame.old ++ 0 ∷ []) }
+    ensures body { body_of frame.new ≡ body_of frame.old }
+{
+    let last = frame.len() - 1;
+    let length = (last - 4) as u32;
+    frame[..4].copy_from_slice(&length.to_be_bytes());
+    frame[last] = CLOSED;
+}
+
+/// The length that four bytes spell.
+pub(crate) fn length_of(bytes: &[u8; 4]) -> u32
+    ensures { length_bytes result ≡ bytes.now }
+{
+    u32::from_be_bytes(*bytes)
+}

@@ -1,0 +1,12 @@
+//! The gate log.
+#![tactic(auto)]
+
+mod device;
+mod fault;
+mod frame;
+pub mod laws;
+mod log;
+mod skim;
+
+pub use fault::LogFault;
+pub use log::GateLog;

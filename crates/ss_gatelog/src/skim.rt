@@ -1,0 +1,114 @@
+// A walk over the records of a file, of which only the heads are looked at.
+ghost use Rattle.std.specs.Prelude.{◌≡◌, ◌⊎◌, ◌+◌, ◌^◌, ◌<◌, ◌≤◌, ℕ, List, length, IsTrue, Err, IsErr, IfOk, IsErrOf, MatchOption, slice_range};
+ghost use Rattle.ss_disk.specs.Disk.{Same, Rose};
+ghost use Rattle.ss_disk.specs.Calls.{Goes};
+ghost use Rattle.ss_gatelog.specs.Log.{longest_body, spelled, HasRecords, IsDamaged};
+ghost use Rattle.ss_gatelog.specs.Skim.{Walked, Reaches, ReachesWithin, IsHead};
+
+use crate::LogFault;
+use crate::frame::{HEAD, LONGEST_BODY, OPEN, length_of};
+use ss_disk::Disk;
+
+/// How many bytes are read at once: a read of each head alone takes three times as long.
+const PIECE: usize = 4096;
+
+/// Where a walk ended.
+#[derive(Clone, Copy, Debug, PartialEq, Eq)]
+pub(crate) enum Reached {
+    /// A closed gate.
+    Closed { at: u64 },
+    /// An open gate behind which no record fits.
+    Unfit { at: u64 },
+    /// A gate past the piece, or too near its end.
+    Further { at: u64 },
+}
+
+/// What stands at a place of a piece.
+#[derive(Clone, Copy, Debug, PartialEq, Eq)]
+pub(crate) enum Head {
+    Closed,
+    Open { length: u32 },
+    /// An open gate, with its length past the piece.
+    Cut,
+}
+
+/// The place of the first closed gate of a file of `size` bytes.
+pub(crate) fn skim<D: Disk>(disk: &mut D, file: u8, limit: u64, size: u64) -> Result<u64, LogFault>
+    requires file { file < 6 }
+    requires limit { (1 ≤ limit) × (limit ≤ 2 ^ 40) }
+    requires size { (1 < size) × (size ≤ D.known disk.old file) }
+    requires read { IsTrue D.told → length (D.files disk.old file) ≡ size }
+    ensures ok { IsTrue D.told → IfOk result (λ end. (records : List (List ℕ)) × HasRecords limit (D.files disk.old file) records × (end ≡ length (spelled records))) }
+    ensures within { IfOk result (λ end. (end < size) × (end < limit)) }
+    ensures damaged { (at : ℕ) → IsErrOf result (LogFault.Damaged at) → (IsTrue D.told → IsDamaged limit (D.files disk.old file) at) × (at < size) × (at < limit) }
+    ensures not_full { (need room : ℕ) → (result ≡ Err (LogFault.LogFull need room)) → ⊥ }
+    ensures fault { IsErrOf result LogFault.DiskFault → Rose (D.faults disk.old) (D.faults disk.new) }
+    ensures no_fault { (result ≡ Err LogFault.DiskFault) ⊎ (D.faults disk.new ≡ D.faults disk.old) }
+    ensures reads { Goes D.Disk Same disk.old disk.new }
+{
+    let mut piece = [0u8; PIECE];
+    let mut at = 0;
+    loop {
+        let len = (size - at).min(PIECE as u64) as usize;
+        disk.read(file, at, &mut piece[..len])?;
+        match skim_piece(&piece[..len], at, size, limit) {
+            Reached::Closed { at } => return Ok(at),
+            Reached::Unfit { at } => return Err(LogFault::Damaged { at }),
+            Reached::Further { at: next } => at = next,
+        }
+    }
+}
+
+/// Walks over the heads in a piece that begins with a gate at `at`.
+fn skim_piece(piece: &[u8], at: u64, size: u64, limit: u64) -> Reached
+    requires some { 1 ≤ length piece.now }
+    requires head { (5 ≤ length piece.now) ⊎ (size < at + 5) }
+    requires piece { (1 < size) × (at + length piece.now ≤ size) }
+    requires limit { (at < limit) × (limit ≤ 2 ^ 40) }
+    ensures reaches { (file : List ℕ) → length file ≡ size → piece.now ≡ slice_range file at (at + length piece.now) → Walked limit file at → Reaches limit file result }
+    ensures within { ReachesWithin at size limit result }
+{
+    let mut offset = 0;
+    while offset < piece.len() {
+        let place = at + offset as u64;
+        match head_at(piece, offset) {
+            Head::Closed => return Reached::Closed { at: place },
+            Head::Cut if size < place + HEAD => return Reached::Unfit { at: place },
+            Head::Cut => return Reached::Further { at: place },
+            Head::Open { length } => match next_gate(place, length, size, limit) {
+                Some(next) => offset = (next - at) as usize,
+                None => return Reached::Unfit { at: place },
+            },
+        }
+    }
+    Reached::Further {
+        at: at + offset as u64,
+    }
+}
+
+fn head_at(piece: &[u8], offset: usize) -> Head
+    requires { offset < length piece.now }
+    ensures { IsHead piece.now offset result }
+{
+    if piece[offset] != OPEN {
+        return Head::Closed;
+    }
+    match &piece[offset + 1..] {
+        [a, b, c, d, ..] => Head::Open {
+            length: length_of(&[*a, *b, *c, *d]),
+        },
+        _ => Head::Cut,
+    }
+}
+
+/// The gate behind a record of this length, where it is in the file and in its first `limit` bytes.
+fn next_gate(place: u64, length: u32, size: u64, limit: u64) -> Option<u64>
+    requires { place < 2 ^ 40 }
+    ensures { MatchOption result ((longest_body < length) ⊎ (size ≤ place + 5 + length) ⊎ (limit ≤ place + 5 + length)) (λ next. (next ≡ place + 5 + length) × (length ≤ longest_body) × (next < size) × (next < limit)) }
+{
+    let next = place + HEAD + u64::from(length);
+    if length > LONGEST_BODY || next >= size || next >= limit {
+        return None;
+    }
+    Some(next)
+}

@@ -1,0 +1,9 @@
+pub mod Parts
+pub mod Numbers
+pub mod Cids
+pub mod Blocks
+pub mod Items
+pub mod Spelled
+pub mod Records
+pub mod Frames
+pub mod Placed

@@ -1,0 +1,5 @@
+pub mod Record
+pub mod Fields
+pub mod Outcome
+pub mod Places
+pub use Rattle.ss_cid.specs.Cid

@@ -107,6 +107,8 @@ fn a_folder_keeps_six_files(rt: HostRuntime) -> Result<(), Fail> {
     let mut disk = FolderDisk::new(rt.alloc(), rt.clone()?, ".")?;
     for (file, name) in names {
         assert!(rt; file < 6);
+        // An earlier run may have left it.
+        let _ = fs::remove_file(&rt, name);
         assert_eq!(rt; disk.size(file)?, 0);
         disk.write(file, 0, &[6, 7, 8])?;
         disk.write(file, 0, &[9])?;

@@ -20,8 +20,10 @@ impl fmt::Display for LogFault {
     fn fmt<W: fmt::Write>(&self, f: &mut fmt::Formatter<W>) -> fmt::Result {
         match self {
             LogFault::DiskFault => write!(f, "disk fault"),
-            LogFault::LogFull { need, room } => write!(f, "log full {need} {room}"),
-            LogFault::Damaged { at } => write!(f, "damaged {at}"),
+            LogFault::LogFull { need, room } => {
+                write!(f, "log full: need {need} bytes, room for {room}")
+            },
+            LogFault::Damaged { at } => write!(f, "damaged at {at}"),
         }
     }
 }

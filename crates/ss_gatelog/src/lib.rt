@@ -7,6 +7,8 @@ mod frame;
 pub mod laws;
 mod log;
 mod skim;
+#[cfg(test)]
+mod tests;
 
 pub use fault::LogFault;
 pub use log::GateLog;

@@ -36,7 +36,7 @@ def main(folder):
         print(f"  {length:,} bytes: put, scanned {shown(scanned)}; not scanned {shown(unscanned)}; "
               f"the scan {shown(scans[-1])}, {each:.2f} ns a byte")
     print(f"  ratio {scans[1] / scans[0]:.2f} for {LENGTHS[1] / LENGTHS[0]:.0f} times the bytes "
-          f"(wanted: about {LENGTHS[1] / LENGTHS[0]:.0f}, which is linear)")
+          f"(wanted: no more than about {LENGTHS[1] / LENGTHS[0]:.0f}, which is linear)")
 
 
 if __name__ == "__main__":

@@ -1,5 +1,5 @@
-mod Bytes
-mod Lists
-mod Logs
-mod Steps
+pub mod Bytes
+pub mod Lists
+pub mod Logs
+pub mod Steps
 mod Walks

@@ -6,7 +6,7 @@ use Rattle.ss_gatelog.proofs.Bytes.{length-length_bytes, length_bytes-injective}
 use Rattle.ss_gatelog.proofs.Steps.{length-spelled-at}
 
 -- two fronts of one length
-same_parts : (p q s t : List ℕ) → length p ≡ length q → p ++ s ≡ q ++ t → (p ≡ q) × (s ≡ t)
+pub same_parts : (p q s t : List ℕ) → length p ≡ length q → p ++ s ≡ q ++ t → (p ≡ q) × (s ≡ t)
 same_parts p q s t long same = (
   sym (take_at p s (length p) refl) ∙ ap (λ (l : List ℕ). take (length p) l) same ∙ take_at q t (length p) (sym long),
   sym (drop_at p s (length p) refl) ∙ ap (λ (l : List ℕ). drop (length p) l) same ∙ drop_at q t (length p) (sym long),
@@ -19,14 +19,14 @@ pub record GoesOn (a b : List (List ℕ)) (x y : List ℕ) : Type 0 where
   pub is : b ≡ a ++ body ∷ bodies
   pub behind : x ≡ spelled (body ∷ bodies) ++ y
 
-record_parts : (body : List ℕ) (bodies : List (List ℕ)) (x : List ℕ) → spelled (body ∷ bodies) ++ x ≡ open_gate ∷ (length_bytes (length body) ++ (body ++ (spelled bodies ++ x)))
+pub record_parts : (body : List ℕ) (bodies : List (List ℕ)) (x : List ℕ) → spelled (body ∷ bodies) ++ x ≡ open_gate ∷ (length_bytes (length body) ++ (body ++ (spelled bodies ++ x)))
 record_parts body bodies x =
     ap (λ (l : List ℕ). open_gate ∷ l) (append_assoc (length_bytes (length body)) (body ++ spelled bodies) x ∙ ap (λ (l : List ℕ). length_bytes (length body) ++ l) (append_assoc body (spelled bodies) x))
 
 tails : (m n : ℕ) (s t : List ℕ) → m ∷ s ≡ n ∷ t → s ≡ t
 tails m n s t same = cc
 
-compared : (a b : List (List ℕ)) (x y : List ℕ) → AreBodies a → AreBodies b → spelled a ++ x ≡ spelled b ++ y → ((a ≡ b) × (x ≡ y)) ⊎ (GoesOn a b x y ⊎ GoesOn b a y x)
+pub compared : (a b : List (List ℕ)) (x y : List ℕ) → AreBodies a → AreBodies b → spelled a ++ x ≡ spelled b ++ y → ((a ≡ b) × (x ≡ y)) ⊎ (GoesOn a b x y ⊎ GoesOn b a y x)
 compared [] [] x y a_are b_are same = inl (refl, same)
 compared [] (body ∷ b) x y a_are b_are same = inr (inl (record { body = body; bodies = b; is = refl; behind = same }))
 compared (body ∷ a) [] x y a_are b_are same = inr (inr (record { body = body; bodies = a; is = refl; behind = sym same }))
@@ -45,19 +45,19 @@ compared (p ∷ a) (q ∷ b) x y a_are b_are same =
     (compared a b x y a_are.1 b_are.1 bodies.1)
 
 -- a closed gate begins no record
-closed_ends : (a b : List (List ℕ)) (gate : ℕ) (rest y : List ℕ) → gate ≢ open_gate → GoesOn a b (gate ∷ rest) y → ⊥
+pub closed_ends : (a b : List (List ℕ)) (gate : ℕ) (rest y : List ℕ) → gate ≢ open_gate → GoesOn a b (gate ∷ rest) y → ⊥
 closed_ends a b gate rest y closed on =
     let same : gate ≡ open_gate = heads gate open_gate _ _ on.behind in closed same
   where
     heads : (m n : ℕ) (s t : List ℕ) → m ∷ s ≡ n ∷ t → m ≡ n
     heads m n s t same = cc
 
-bodies_part : (a : List (List ℕ)) (body : List ℕ) (bodies : List (List ℕ)) → AreBodies (a ++ body ∷ bodies) → length body ≤ longest_body
+pub bodies_part : (a : List (List ℕ)) (body : List ℕ) (bodies : List (List ℕ)) → AreBodies (a ++ body ∷ bodies) → length body ≤ longest_body
 bodies_part [] body bodies are = are.0
 bodies_part (b ∷ a) body bodies are = bodies_part a body bodies are.1
 
 -- nor does an open gate behind which none fits, where the longer row lies within the limit and bytes stand behind it
-unfit_ends : (limit at : ℕ) (a b : List (List ℕ)) (rest y : List ℕ) → at ≡ length (spelled a) → ((n : ℕ) → Fits limit at rest n → ⊥) → AreBodies b → length (spelled b) < limit → 0 < length y → GoesOn a b (open_gate ∷ rest) y → ⊥
+pub unfit_ends : (limit at : ℕ) (a b : List (List ℕ)) (rest y : List ℕ) → at ≡ length (spelled a) → ((n : ℕ) → Fits limit at rest n → ⊥) → AreBodies b → length (spelled b) < limit → 0 < length y → GoesOn a b (open_gate ∷ rest) y → ⊥
 unfit_ends limit at a b rest y place unfit b_are within some on =
     let n = length on.body in
     let parts : rest ≡ length_bytes n ++ (on.body ++ (spelled on.bodies ++ y)) = tails open_gate open_gate _ _ (on.behind ∙ record_parts on.body on.bodies y) in

@@ -88,7 +88,8 @@ impl GateLog {
         })
     }
 
-    /// Closes the gate that is in doubt, after which the record behind it does not count.
+    /// Makes a log that is in doubt sure, by closing the gate at its end. So the record of an `append` that is
+    /// in doubt does not count then; where a `restart` is in doubt the list becomes empty.
     ///
     /// `DiskFault`: the gate is still in doubt.
     pub fn settle<D: Disk>(&mut self, disk: &mut D) -> Result<(), LogFault>
@@ -216,6 +217,7 @@ impl GateLog {
     pub fn end(&self) -> u64
         ensures end { result ≡ self.now.end }
         ensures within { result < self.now.limit }
+        ensures small { result < 2 ^ 40 }
     {
         self.end
     }

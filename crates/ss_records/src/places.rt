@@ -8,6 +8,7 @@ use ss_cid::Cid;
 /// A block in the body of a Put.
 #[derive(Clone, Copy, Debug, PartialEq, Eq, Hash)]
 pub struct BlockPlace {
+    /// The block's CID.
     pub cid: Cid,
     /// The place in the body of the first byte of its data, counted from 0.
     pub at: usize,

@@ -37,6 +37,7 @@ pub enum Mode {
 /// The bounds are those of a record that is read or written. The type itself keeps none.
 #[derive(Clone, Copy, Debug, PartialEq, Eq, Hash)]
 pub struct Config {
+    /// What becomes of the blocks that a compaction takes out of the hot store.
     pub mode: Mode,
     /// How many epochs behind the head's height the edge of a compaction lies, at most 2^62.
     pub depth: u64,

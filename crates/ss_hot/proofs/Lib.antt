@@ -1,0 +1,18 @@
+mod Bodies
+mod Faults
+mod Fresh
+mod Grown
+mod Maps
+mod Opened
+mod Pairs
+mod Passed
+pub mod Places
+mod Placing
+mod PutReadings
+mod Puts
+pub mod Readings
+pub mod Reopened
+mod Settings
+mod Sizes
+mod TreeMap
+mod Writes

@@ -1,0 +1,61 @@
+-- What the file of a half stands for: a store with its records, or no store, or the place of its first damage.
+use Rattle.std.specs.Prelude.{◌≡◌, ◌⊎◌, ℕ, ◌<◌, List, [], ◌∷◌, ◌++◌, length, Ok}
+use Rattle.std.specs.FinMap as finite_map
+use Rattle.ss_records.specs.declared.record.Config.{Config as Settings}
+use Rattle.ss_records.specs.declared.record.Record.{Record}
+use Rattle.ss_records.specs.declared.record.Record.TheVariants.{Config}
+use Rattle.ss_records.specs.Fields.{read_record}
+use Rattle.ss_gatelog.specs.Log.{open_gate, length_bytes, spelled, AreBodies, HasList, Fits as FitsGate}
+use Rattle.ss_hot.specs.Half.{bodies, MayStand, AreInPlace, hot_blocks}
+
+-- Settings are committed: the first two gates are open, both records and a gate behind them are in the file, and the second
+-- record is these settings.
+pub record HasSettings (file : List ℕ) (settings : Settings) : Type 0 where
+  pub first : List ℕ
+  pub second : List ℕ
+  pub gate : ℕ
+  pub rest : List ℕ
+  pub is : file ≡ spelled (first ∷ second ∷ []) ++ gate ∷ rest
+  pub bodies : AreBodies (first ∷ second ∷ [])
+  pub reads : read_record second ≡ Ok (Config settings)
+
+-- the file is a half that has these records
+pub record IsHalf (file : List ℕ) (settings : Settings) (records : List Record) : Type 0 where
+  pub committed : HasSettings file settings
+  pub list : HasList settings.limit file (bodies records)
+  pub in_place : AreInPlace 0 records
+
+-- a record is whole behind a gate, and is none that may be read as the n-th
+pub record IsBad (limit n at : ℕ) (rest : List ℕ) : Type 0 where
+  pub body : List ℕ
+  pub more : List ℕ
+  pub is : rest ≡ length_bytes (length body) ++ (body ++ more)
+  pub fits : FitsGate limit at rest (length body)
+  pub bad : (r : Record) → read_record body ≡ Ok r → MayStand n r → ⊥
+
+-- The first record at fault has its gate at this place: good records lead up to it, an open gate stands there, and behind
+-- it no record fits, or one that is not to stand there.
+pub record IsFaulty (limit : ℕ) (file : List ℕ) (at : ℕ) : Type 0 where
+  pub front : List Record
+  pub rest : List ℕ
+  pub is : file ≡ spelled (bodies front) ++ open_gate ∷ rest
+  pub place : at ≡ length (spelled (bodies front))
+  pub bodies : AreBodies (bodies front)
+  pub in_place : AreInPlace 0 front
+  pub within : at < limit
+  pub fault : ((n : ℕ) → FitsGate limit at rest n → ⊥) ⊎ IsBad limit (length front) at rest
+
+-- more blocks are hot than the settings allow
+abbrev pub HasTooMany : List ℕ → Settings → Type 0
+HasTooMany file settings = (records : List Record) × IsHalf file settings records × (settings.rows < finite_map.len (hot_blocks records))
+
+-- the place of the settings' gate, behind the record of a generation
+abbrev pub settings_gate : ℕ
+settings_gate = 14
+
+-- The file is of a store, and is damaged at this place: at the first record at fault, or, where there is none and too many
+-- blocks are hot, at the settings.
+pub record IsDamagedHalf (file : List ℕ) (at : ℕ) : Type 0 where
+  pub settings : Settings
+  pub committed : HasSettings file settings
+  pub damage : IsFaulty settings.limit file at ⊎ (HasTooMany file settings × (at ≡ settings_gate))

@@ -1,0 +1,11 @@
+pub mod Half
+pub mod Index
+pub mod File
+pub mod Store
+pub mod Codes
+pub mod Window
+pub mod Walk
+pub use Rattle.ss_disk.specs.Calls
+pub use Rattle.ss_gatelog.specs.Log
+pub use Rattle.ss_gatelog.specs.GateLog
+pub use Rattle.ss_records.specs.Record

@@ -1,0 +1,39 @@
+//! Laws of a half's records. Each function does nothing: its contract is the law.
+ghost use Rattle.std.specs.Prelude.{◌≡◌, ◌+◌, ◌++◌, ◌≤◌, ℕ, List, false, length, slice_range, option_map};
+ghost use Rattle.std.specs.FinMap as finite_map;
+ghost use Rattle.ss_disk.specs.Disk.{Files};
+ghost use Rattle.ss_gatelog.specs.Log.{spelled};
+ghost use Rattle.ss_records.specs.declared.record.Config.{Config as Settings};
+ghost use Rattle.ss_records.specs.declared.record.Record.{Record};
+ghost use Rattle.ss_hot.specs.File.{HasSettings, IsHalf, IsDamagedHalf};
+ghost use Rattle.ss_hot.specs.Half.{bodies, hot_blocks, hot_places};
+ghost use Rattle.ss_hot.specs.Store.{Hot, Keeps};
+
+use ss_disk::Disk;
+
+/// The places of the hot blocks tell which blocks are hot, and how long each is.
+pub fn places_tell_blocks()
+    ensures lengths { (records : List Record) (cid : List ℕ) → option_map (λ place. place.len) (finite_map.get (hot_places records) cid) ≡ option_map (λ block. length block) (finite_map.get (hot_blocks records) cid) }
+    ensures keys { (records : List Record) → finite_map.keys (hot_places records) ≡ finite_map.keys (hot_blocks records) }
+    ensures count { (records : List Record) → finite_map.len (hot_places records) ≡ finite_map.len (hot_blocks records) }
+{}
+
+/// In a file that begins with the records each hot block stands at its place.
+pub fn blocks_stand_at_their_places()
+    ensures { (records : List Record) (cid file rest : List ℕ) → file ≡ spelled (bodies records) ++ rest
+        → option_map (λ place. slice_range file place.at (place.at + place.len)) (finite_map.get (hot_places records) cid) ≡ finite_map.get (hot_blocks records) cid }
+{}
+
+/// A file has one setting and stands for one list of records, or is damaged at one place; and not both, where no more blocks are
+/// hot than its settings allow.
+pub fn one_reading()
+    ensures settings { (file : List ℕ) (a b : Settings) → HasSettings file a → HasSettings file b → a ≡ b }
+    ensures records { (file : List ℕ) (a b : Settings) (r s : List Record) → IsHalf file a r → IsHalf file b s → r ≡ s }
+    ensures apart { (file : List ℕ) (at : ℕ) (settings : Settings) (records : List Record) → IsDamagedHalf file at → IsHalf file settings records → finite_map.len (hot_blocks records) ≤ settings.rows → ⊥ }
+    ensures one_place { (file : List ℕ) (at at' : ℕ) → IsDamagedHalf file at → IsDamagedHalf file at' → at ≡ at' }
+{}
+
+/// A store whose log is sure is found again: each image now is a half with its settings and just its records.
+pub fn kept_is_opened_again<D: Disk>()
+    ensures { (now : _) (store : Hot) (records others : List Record) → Keeps D.Disk now store records others → store.log.unsure ≡ false → (left : Files) → D.image now (D.moment now) left → IsHalf (left 0) store.settings records }
+{}

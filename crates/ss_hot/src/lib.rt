@@ -1,0 +1,30 @@
+//! The hot store: the blocks that were put and not dropped since, with the head of the chain and the base of the
+//! last compaction, in one gate log of a disk.
+//!
+//! Contracts see a [`HotStore`] as its settings, its log, a map from CIDs to the places of their blocks, its head
+//! and its base (`Hot` in `specs/Store.antt`). Over a disk it stands for a list of records (`Keeps`): what it
+//! tells is what these records leave (`specs/Half.antt`), and each image of a crash has them in file 0. Where the
+//! log is unsure, each image has them or one other list, by one gate.
+//!
+//! The one contract: a call that writes, as [`HotStore::put_batch`], appends one record or leaves the list as it
+//! was, and every image since its start has the one list or the other, whatever the answer. [`HotStore::open`]
+//! gives the store of exactly the records that the file has; or None, where no settings are committed in it; or
+//! the place of the first record at fault (`specs/File.antt`).
+//!
+//! No block is held in memory: the index has for each block its CID and its place, so a get is one read. That the
+//! places tell the blocks is in [`laws`]. A call that writes takes all its memory before it asks the disk for
+//! anything. After a fault the log may be unsure, and no call writes a record until [`HotStore::settle`] has made
+//! it sure. Which records a half has, and what they leave, is this project's own.
+#![tactic(auto)]
+
+mod fault;
+mod index;
+pub mod laws;
+mod place;
+mod store;
+#[cfg(test)]
+mod tests;
+
+pub use fault::StoreFault;
+pub use place::Place;
+pub use store::HotStore;

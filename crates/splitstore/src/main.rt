@@ -1,27 +1,48 @@
-//! The program: makes the ends of a run and makes the top call.
+//! The program: makes the ends and the disk of a run, and makes the top call.
 #![tactic(auto)]
 
 use ss_app::run_alone;
+use ss_disk::FolderDisk;
 use ss_io::{StdSink, StdSource};
+use std::alloc::AllocError;
 use std::env;
-use std::io::{self, BufWriter};
+use std::io::{self, BufWriter, Write};
 use std::process::ExitCode;
 use std::rt::Env;
 
 /// The bytes of output that are put aside before they are written.
 const OUTPUT_BYTES: usize = 65536;
 
-fn main(rt: HostRuntime) -> io::Result<ExitCode> {
-    let words = words(&rt)?;
+/// The folder whose files are the disk.
+const FOLDER: &str = ".";
+
+/// The status of a run for which memory was wanting.
+const NO_MEMORY: u8 = 3;
+
+fn main(rt: HostRuntime) -> ExitCode {
+    match run(&rt) {
+        Some(status) => ExitCode::from(status),
+        None => {
+            // The status tells it too, where the line is not taken.
+            let _ = io::writer(&rt).write_all(b"error: no memory\n");
+            ExitCode::from(NO_MEMORY)
+        }
+    }
+}
+
+// Runs the program in the current folder, and answers its status, or None where the memory for its ends is not there.
+fn run(rt: &HostRuntime) -> Option<u8> {
+    let words = words(rt).ok()?;
+    let disk = FolderDisk::new(rt.alloc(), rt.clone().ok()?, FOLDER).ok()?;
     let mut source = StdSource::new(rt.reader());
-    let output = BufWriter::with_capacity(rt.alloc(), OUTPUT_BYTES, io::writer(&rt))?;
+    let output = BufWriter::with_capacity(rt.alloc(), OUTPUT_BYTES, io::writer(rt)).ok()?;
     let mut sink = StdSink::new(output);
-    let status = run_alone(rt.alloc(), words.as_slice(), &mut source, &mut sink);
-    Ok(ExitCode::from(status))
+    let exit = run_alone(rt.alloc(), words.as_slice(), &mut source, &mut sink, disk);
+    Some(exit.status)
 }
 
 // The words behind the program's name; none where they are not text.
-fn words(rt: &(impl Env + AllocGlobal)) -> io::Result<Vec<String>> {
+fn words(rt: &(impl Env + AllocGlobal)) -> Result<Vec<String>, AllocError> {
     let mut words = Vec::new(rt.alloc());
     let Ok(all) = env::args(rt) else {
         return Ok(words);

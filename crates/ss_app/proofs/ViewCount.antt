@@ -7,7 +7,7 @@ use Rattle.std.specs.FinSet as set
 use Rattle.std.specs.FinSet.{contains-insert, contains-empty}
 use Rattle.std.proofs.lemmas.Bool.{lt-ltb, le-ltb}
 use Rattle.std.proofs.lemmas.Bool.Decides.{nat_tests}
-use Rattle.ss_app.specs.Store.{views_below}
+use Rattle.ss_app.specs.Stands.{views_below}
 
 pub contains_below : (n v : ℕ) → set.contains (views_below n) v ≡ nat_lt v n
 contains_below zero v = contains-empty nat_cmp v ∙ sym (le-ltb v 0 (omega arith))

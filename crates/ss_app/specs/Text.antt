@@ -58,12 +58,16 @@ put_reply_text (put.UnknownHash i) = codes "unknown-hash " ++ decimal i
 put_reply_text (put.Malformed i kind at) = codes "malformed " ++ (decimal i ++ (codes " " ++ (decimal (kind_number kind) ++ (codes " " ++ decimal at))))
 put_reply_text (put.Mismatch i) = codes "mismatch " ++ decimal i
 put_reply_text put.NoMemory = codes "no-memory"
+put_reply_text (put.TableFull rows) = codes "table-full " ++ decimal rows
+put_reply_text (put.LogFull file need room) = codes "log-full " ++ (decimal file ++ (codes " " ++ (decimal need ++ (codes " " ++ decimal room))))
+put_reply_text put.DiskFault = codes "fault"
 put_reply_text (put.Stored new) = codes "stored " ++ decimal new
 
 abbrev pub get_reply_text : GetReply → List ℕ
 get_reply_text get.BadView = codes "bad-view"
 get_reply_text get.NotFound = codes "not-found"
 get_reply_text get.NoMemory = codes "no-memory"
+get_reply_text get.DiskFault = codes "fault"
 get_reply_text (get.Found block) = codes "found " ++ bytes_text block
 
 abbrev pub answer_text : Answer → List ℕ

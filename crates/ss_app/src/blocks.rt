@@ -1,19 +1,18 @@
-//! Blocks in a list, of which the first under a CID counts.
+//! Which blocks may be stored, and how many bytes a put of them takes.
 
-ghost use Rattle.std.specs.Prelude.{◌≡◌, ◌-◌, ◌^◌, min, [], ◌∷◌, is_some, OnErr, IfOk, IfErr, OnOk, IsOk, MatchOption};
-ghost use Rattle.std.specs.Option.{option_copied};
-ghost use Rattle.std.specs.List.{find as list_find};
-ghost use Rattle.std.specs.Str.{bytes_eq};
-ghost use Rattle.std.specs.FinMap as map;
-ghost use Rattle.ss_model.specs.Lawful.{IsSound, AreSound, IsDagCbor, IsFirstFault, fetched, put_bytes, pair_bytes};
+ghost use Rattle.std.specs.Prelude.{◌≡◌, ◌-◌, ◌^◌, ◌<◌, ◌≤◌, List, min, OnOk, IfErr, IsOk, MatchOption};
+ghost use Rattle.ss_records.specs.declared.record.Record.{Record};
+ghost use Rattle.ss_hot.specs.Half.{hot_blocks};
+ghost use Rattle.ss_hot.specs.Store.{Tells};
+ghost use Rattle.ss_model.specs.Lawful.{IsSound, AreSound, IsDagCbor, IsFirstFault, body_bytes, written_bytes, put_bytes, pair_bytes};
 ghost use Rattle.ss_cbor.specs.Fault.{scanned};
-ghost use Rattle.ss_app.specs.Store.{kept_of, Adds, IsFaultOf, IsMalformed, refusal_of};
+ghost use Rattle.ss_app.specs.Blocks.{IsFaultOf, IsMalformed, refusal_of};
 
 use ss_cbor::{CborKind, scan};
-use ss_cid::{Bytes, Cid, Codec, NoMemory, Parcel};
+use ss_cid::{Cid, Codec, Parcel};
 use ss_hash::{HashFault, check};
+use ss_hot::HotStore;
 use ss_model::{BLOCK_BYTES, PutReply};
-use std::alloc::Global;
 
 /// Why a block is not stored.
 #[derive(Clone, Copy, Debug, PartialEq, Eq)]
@@ -89,106 +88,36 @@ pub fn first_fault(parcel: &Parcel) -> Option<PutReply>
 }
 
 /// The bytes that a put of a parcel takes, 2^64 - 1 at the most.
-pub fn parcel_bytes(blocks: &[(Cid, Bytes)], parcel: &Parcel) -> u64
-    ensures { result ≡ min (put_bytes (kept_of blocks.now) parcel.now) (2 ^ 64 - 1) }
+pub fn parcel_bytes(hot: &HotStore, parcel: &Parcel) -> u64
+    ensures least { min (body_bytes parcel.now) (2 ^ 64 - 1) ≤ result }
+    ensures all { (records : List Record) → Tells hot.now records → result ≡ min (put_bytes (hot_blocks records) parcel.now) (2 ^ 64 - 1) }
 {
     let mut bytes = 3u64;
     for i in 0..parcel.len() {
         let (cid, block) = parcel.at(i);
-        bytes = bytes.saturating_add(pair_bytes(blocks, &cid, block));
+        bytes = bytes.saturating_add(pair_bytes(hot, &cid, block));
+    }
+    bytes
+}
+
+/// The bytes of the body of a record of these blocks.
+pub fn body_bytes(blocks: &Parcel) -> u64
+    requires { body_bytes blocks.now < 2 ^ 64 }
+    ensures { result ≡ body_bytes blocks.now }
+{
+    let mut bytes = 3u64;
+    for i in 0..blocks.len() {
+        let (cid, block) = blocks.at(i);
+        bytes += (cid.as_bytes().len() + 4 + block.len()) as u64;
     }
     bytes
 }
 
 // The bytes that a pair takes of a put.
-fn pair_bytes(blocks: &[(Cid, Bytes)], cid: &Cid, block: &[u8]) -> u64
-    ensures { result ≡ pair_bytes (kept_of blocks.now) (cid.now, block.now) }
+fn pair_bytes(hot: &HotStore, cid: &Cid, block: &[u8]) -> u64
+    ensures least { written_bytes (cid.now, block.now) ≤ result }
+    ensures all { (records : List Record) → Tells hot.now records → result ≡ pair_bytes (hot_blocks records) (cid.now, block.now) }
 {
-    let kept = match find(blocks, cid) {
-        Some(kept) => kept.len(),
-        None => 0,
-    };
-    cid.as_bytes().len() as u64 + 4 + block.len().max(kept) as u64
-}
-
-/// The block that is kept under a CID.
-pub fn find<'a>(blocks: &'a [(Cid, Bytes)], cid: &Cid) -> Option<&'a Bytes>
-    ensures { option_copied result ≡ map.get (kept_of blocks.now) cid.now }
-{
-    match pair(blocks, cid) {
-        Some((_, block)) => Some(block),
-        None => None,
-    }
-}
-
-// The first pair under a CID.
-fn pair<'a>(blocks: &'a [(Cid, Bytes)], cid: &Cid) -> Option<&'a (Cid, Bytes)>
-    ensures { option_copied result ≡ list_find (λ pair. bytes_eq cid.now pair.0) blocks.now }
-{
-    blocks
-        .iter()
-        .find(|pair| cid.as_bytes() == pair.0.as_bytes())
-}
-
-/// Adds the blocks of a parcel whose CIDs are not there, and tells how many. Where the memory is not there, none is added.
-pub fn add_blocks(
-    alloc: Global,
-    blocks: &mut Vec<(Cid, Bytes)>,
-    parcel: &Parcel,
-) -> Result<u32, NoMemory>
-    ensures ok { IfOk result (Adds blocks.old.items blocks.new.items parcel.now) }
-    ensures err { OnErr result (blocks.new.items ≡ blocks.old.items) }
-{
-    let before = blocks.len();
-    let mut added = 0;
-    for i in 0..parcel.len() {
-        let (cid, block) = parcel.at(i);
-        match add_block(alloc, blocks, cid, block) {
-            Ok(more) => added += more,
-            Err(NoMemory) => {
-                blocks.truncate(before);
-                return Err(NoMemory);
-            }
-        }
-    }
-    Ok(added)
-}
-
-// Adds a block whose CID is not there, and tells how many were added.
-fn add_block(
-    alloc: Global,
-    blocks: &mut Vec<(Cid, Bytes)>,
-    cid: Cid,
-    block: &[u8],
-) -> Result<u32, NoMemory>
-    ensures ok { IfOk result (Adds blocks.old.items blocks.new.items ((cid, block.now) ∷ [])) }
-    ensures err { OnErr result (blocks.new.items ≡ blocks.old.items) }
-{
-    if is_known(blocks.as_slice(), &cid) {
-        return Ok(0);
-    }
-    let block = Bytes::from_slice(alloc, block)?;
-    blocks.push((cid, block))?;
-    Ok(1)
-}
-
-/// The block that a CID stands for: an identity CID for its digest, and another for what is kept under it.
-#[tactic(auto, unfolding(ss_model::specs::Lawful::fetched))]
-pub fn fetch<'a>(blocks: &'a [(Cid, Bytes)], cid: &'a Cid) -> Option<&'a [u8]>
-    ensures { option_copied result ≡ fetched (kept_of blocks.now) cid.now }
-{
-    match cid.identity() {
-        Some(digest) => Some(digest),
-        None => match find(blocks, cid) {
-            Some(block) => Some(block.as_slice()),
-            None => None,
-        },
-    }
-}
-
-// Whether a CID stands for a block.
-fn is_known(blocks: &[(Cid, Bytes)], cid: &Cid) -> bool
-    ensures { result ≡ is_some (fetched (kept_of blocks.now) cid.now) }
-{
-    fetch(blocks, cid).is_some()
+    let kept = hot.size(cid).unwrap_or(0);
+    cid.as_bytes().len() as u64 + 4 + block.len().max(kept as usize) as u64
 }

@@ -6,6 +6,7 @@ ghost use Rattle.ss_io.specs.Written.{PutAppends};
 ghost use Rattle.ss_app.specs.Ending.{status_of, line_of, number_text, numbers_text};
 
 use crate::script::{ScriptFault, ScriptKind};
+use crate::store::OpenFault;
 use itoa::Buffer;
 use ss_io::{Failed, Sink};
 
@@ -20,6 +21,14 @@ pub enum Ending {
     NoMemory,
     /// The source failed.
     ReadFault,
+    /// The disk failed while the store was opened or made.
+    DiskFault,
+    /// The disk has no store.
+    NoStore,
+    /// The disk has a store already.
+    StoreExists,
+    /// A file is damaged: the record whose gate is at `at` is the first at fault.
+    Damaged { file: u8, at: u64 },
     /// The line of the script is at fault.
     BadScript { line: u32, kind: ScriptKind },
     /// The script has more bytes than a script may have.
@@ -40,6 +49,23 @@ impl From<ScriptFault> for Ending {
     }
 }
 
+impl From<OpenFault> for Ending {
+    ghost use Rattle.std.specs.Prelude.{◌≡◌};
+    ghost use Rattle.ss_app.specs.Ending.{ending_of_open};
+
+    ghost from_gives = { λ fault ending. ending ≡ ending_of_open fault };
+
+    fn from(fault: OpenFault) -> Ending {
+        match fault {
+            OpenFault::NoStore => Ending::NoStore,
+            OpenFault::StoreExists => Ending::StoreExists,
+            OpenFault::Damaged { file, at } => Ending::Damaged { file, at },
+            OpenFault::DiskFault => Ending::DiskFault,
+            OpenFault::NoMemory => Ending::NoMemory,
+        }
+    }
+}
+
 impl Ending {
     /// The status that the program ends with.
     pub fn status(self) -> u8
@@ -50,6 +76,9 @@ impl Ending {
             Ending::Usage { word: _ } => 2,
             Ending::NoMemory => 3,
             Ending::ReadFault => 4,
+            Ending::DiskFault => 6,
+            Ending::NoStore | Ending::StoreExists => 7,
+            Ending::Damaged { file: _, at: _ } => 8,
             Ending::BadScript { line: _, kind: _ } => 9,
             Ending::TooLong => 13,
         }
@@ -65,6 +94,12 @@ impl Ending {
             Ending::Usage { word } => put_numbers(sink, b"error: usage", &[word as u64]),
             Ending::NoMemory => sink.put(b"error: no memory\n"),
             Ending::ReadFault => sink.put(b"error: read fault\n"),
+            Ending::DiskFault => sink.put(b"error: disk fault\n"),
+            Ending::NoStore => sink.put(b"error: no store\n"),
+            Ending::StoreExists => sink.put(b"error: store exists\n"),
+            Ending::Damaged { file, at } => {
+                put_numbers(sink, b"error: damaged", &[u64::from(file), at])
+            }
             Ending::BadScript { line, kind } => {
                 let numbers = [u64::from(line), u64::from(kind.number())];
                 put_numbers(sink, b"error: script", &numbers)

@@ -43,7 +43,8 @@ impl From<AllocError> for InputFault {
     }
 }
 
-/// Reads a source to its end, or up to one byte more than a script may have.
+/// Reads a source to its end, or until it has given more bytes than a script may have. The source is read in pieces, so up to a
+/// piece more than that, 8192 bytes, may have been taken from it.
 pub fn read_all<S: Source>(alloc: Global, source: &mut S) -> Result<Vec<u8>, InputFault>
     ensures all { IfOk result (λ text. Consumes (S.left source.old) (S.left source.new) text.items × IsAtEnd (S.left source.new)) }
     ensures within { IfOk result (λ text. vec_len text ≤ SCRIPT_BYTES) }

@@ -1,9 +1,29 @@
-//! The program.
+//! The program as a library: what the words of the command line ask for, over any source, sink and disk.
+//!
+//! Contracts see a run as the words, the bytes that the source has left and that the sink was given, the disk, and
+//! their counts of faults. Of `trace` it comes to a history of `ss_model` and an ending. The history is legal from a
+//! state that the file of the hot log stands for (`specs/Stands.antt`), its entries are the lines of the script, each
+//! once, in order (`specs/Run.antt`), and its text is one line an entry (`specs/Text.antt`). The ending has a status
+//! and a last line (`specs/Ending.antt`).
+//!
+//! The one contract is that of [`run_alone`], which `specs/Outcome.antt` spells: what is written is the printed text of
+//! such a history and then the line of the ending, and the status is the ending's; where the sink failed it is a front
+//! of that, and the status is 5. A status that blames an end or the disk comes only where that counted a fault, and one
+//! that blames the words, the script or the file comes just where these are at fault, but for want of memory and
+//! faults. What is said of bytes holds over ends that tell them, and what is said of states over disks that tell their
+//! files.
+//!
+//! A run goes through the words (`words`), the input (`input`), the script (`script`), the store (`store`, with `blocks`
+//! and `fresh` for what a put stores), the views of the clients (`views`) and the printed text (`text`) to the ending
+//! (`ending`). Words, script and text are forms of this project's own.
 #![tactic(auto)]
 
 mod blocks;
 mod ending;
+mod fresh;
+mod help;
 mod input;
+pub mod laws;
 mod pieces;
 mod run;
 mod script;
@@ -12,8 +32,11 @@ mod store;
 mod tests;
 mod text;
 mod views;
+mod words;
+#[cfg(test)]
+mod words_tests;
 
-pub use run::run_alone;
+pub use run::{Exit, run_alone};
 
 /// The most bytes that a script may have.
 pub const SCRIPT_BYTES: usize = 16777216;

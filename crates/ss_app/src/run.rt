@@ -1,82 +1,135 @@
 //! The top call.
 
-ghost use Rattle.std.specs.Prelude.{◌≡◌, ◌<◌, ◌+◌, ◌^◌, ℕ, List, [], ◌∷◌, ◌++◌, Option, replicate, map, string_bytes, false, None, Some, IsSome, IfOk, All, ◌⊎◌};
-ghost use Rattle.ss_model.specs.State.{empty_state};
-ghost use Rattle.ss_app.specs.declared.script.Line.{Line};
-ghost use Rattle.ss_app.specs.Progress.{Progress, Stepped};
-ghost use Rattle.ss_model.specs.Lawful.{Lawful, After};
-ghost use Rattle.ss_app.specs.Ending.{status_of, line_of};
-ghost use Rattle.ss_app.specs.Outcome.{bad_word, Says, Made, Traced, Ran, RefusesScript, IsValidRun};
+ghost use Rattle.std.specs.Prelude.{◌≡◌, ◌<◌, ◌+◌, ◌-◌, ◌^◌, ◌≤◌, ℕ, List, [], ◌∷◌, ◌++◌, Option, replicate, map, string_bytes, false, Ok, Some, IsErr, IsTrue, IfOk, All, ◌⊎◌};
+ghost use Rattle.ss_disk.specs.Disk.{Rose as DiskRose};
+ghost use Rattle.ss_disk.specs.Calls.{Touches};
+ghost use Rattle.ss_records.specs.declared.record.Config.{Config as Settings};
+ghost use Rattle.ss_records.specs.Record.{SettingsFit};
+ghost use Rattle.ss_model.specs.State.{State};
+ghost use Rattle.ss_model.specs.Lawful.{Lawful, After, is_disk_fault};
 ghost use Rattle.ss_io.specs.Causes.{Rose};
+ghost use Rattle.ss_app.specs.declared.script.Line.{Line};
+ghost use Rattle.ss_app.specs.declared.words.Command.TheVariants as command;
+ghost use Rattle.ss_app.specs.Ending.{status_of, line_of};
+ghost use Rattle.ss_app.specs.Outcome.{Says, Made, Traced, Inited, Ran, RefusesScript, RefusesStore, RefusesInit, IsValidTrace, HasNoStore, AsksFor};
 ghost use Rattle.ss_app.specs.Printing.{PrintsUnless};
-ghost use Rattle.ss_app.specs.Text.{entry_text};
+ghost use Rattle.ss_app.specs.Progress.{Progress, Stepped, Story};
+ghost use Rattle.ss_app.specs.Room.{OfFullLog, doubt_after, end_after};
 ghost use Rattle.ss_app.specs.Run.{client_views, resolved};
+ghost use Rattle.ss_app.specs.Stands.{Serves};
+ghost use Rattle.ss_app.specs.Text.{entry_text};
+ghost use Rattle.ss_app.specs.Words.{command_of};
 
 use crate::ending::Ending;
+use crate::help::{HELP, VERSION};
 use crate::input::{InputFault, read_all};
 use crate::script::{Line, read_script};
-use crate::store::Store;
+use crate::store::{Store, init};
 use crate::text::{PrintFault, write_entry};
 use crate::views::Views;
+use crate::words::{Command, command_of};
 use ss_cid::NoMemory;
+use ss_disk::Disk;
 use ss_io::{Sink, Source};
 use ss_model::Entry;
+use ss_records::Config;
 use std::alloc::Global;
 
 /// The status of a run whose sink failed.
 const WRITE_FAULT: u8 = 5;
 
+/// How a run ended: its status, and the disk as it is then.
+#[derive(Debug, Drop)]
+pub struct Exit<D> {
+    /// The status that the program ends with.
+    pub status: u8,
+    /// The disk that was handed in.
+    pub disk: D,
+}
+
 /// Does what the words of the command line ask for, and answers the status that the program ends with.
 ///
-/// The one command is `trace`: it reads a script from the source, makes its calls on a store in memory that ends with the
-/// run, and writes a line for each. A word that is not of the form is found before the source is read, a source that fails
-/// or holds more than `SCRIPT_BYTES` before a bad line, and a bad line before any call is made. Statuses:
+/// `init` makes a store on the disk. `trace` reads a script from the source, makes its calls on the store of the disk, and writes a
+/// line for each. `--help` and `--version` write what they name. A word that is not of the form is found before anything else, a
+/// source that fails or holds more than `SCRIPT_BYTES` before a bad line, a bad line before the disk is touched, and what is wrong
+/// with the store before any call is made. A call that fails, for want of memory, of room or of a working disk, is an entry like
+/// any other. Statuses:
 ///
 /// | status | why |
 /// |---|---|
-/// | 0 | all calls were made and all lines are written |
+/// | 0 | all was done and all is written |
 /// | 2 | a word is not of the form |
 /// | 3 | memory was wanting |
 /// | 4 | the source failed |
-/// | 5 | the sink failed; the calls were made all the same |
+/// | 5 | the sink failed; all else was done that the run would have done |
+/// | 6 | the disk failed while the store was opened or made |
+/// | 7 | the disk has no store, or for `init` it has one |
+/// | 8 | a file of the store is damaged |
 /// | 9 | a line of the script is not of the form |
 /// | 13 | the script is too long |
-pub fn run_alone<S: Source, K: Sink>(
+pub fn run_alone<S: Source, K: Sink, D: Disk>(
     alloc: Global,
     words: &[String],
     source: &mut S,
     sink: &mut K,
-) -> u8
-    ensures run { Ran (map string_bytes words.now) (S.left source.old) (S.left source.new) (S.faults source.old) (S.faults source.new) (K.written sink.old) (K.written sink.new) (K.faults sink.old) (K.faults sink.new) result }
+    disk: D,
+) -> Exit<D>
+    ensures run { Ran (command_of (map string_bytes words.now)) D.Disk disk result.disk (S.left source.old) (S.left source.new) (S.faults source.old) (S.faults source.new) (K.written sink.old) (K.written sink.new) (K.faults sink.old) (K.faults sink.new) result.status }
 
-    // A fault is answered only where the end counted it.
-    ensures read_fault { result ≡ 4 → Rose (S.faults source.old) (S.faults source.new) }
-    ensures write_fault { result ≡ 5 → Rose (K.faults sink.old) (K.faults sink.new) }
+    // A fault is answered only where the end or the disk counted it.
+    ensures read_fault { result.status ≡ 4 → Rose (S.faults source.old) (S.faults source.new) }
+    ensures write_fault { result.status ≡ 5 → Rose (K.faults sink.old) (K.faults sink.new) }
+    ensures disk_fault { result.status ≡ 6 → DiskRose (D.faults disk) (D.faults result.disk) }
 
-    // The refusals come just where the words and the script call for them, but for want of memory and faults of the ends.
-    ensures usage { (result ≡ 2 → IsSome (bad_word (map string_bytes words.now))) × (IsSome (bad_word (map string_bytes words.now)) → (result ≡ 2) ⊎ (result ≡ 5)) }
-    ensures script { (script : List ℕ) → bad_word (map string_bytes words.now) ≡ None → S.left source.old ≡ Some script → RefusesScript script result }
-    ensures complete { (script : List ℕ) (lines : List Line) → IsValidRun (map string_bytes words.now) (S.left source.old) (S.faults source.old) (S.faults source.new) (K.faults sink.old) (K.faults sink.new) script lines → (result ≡ 0) ⊎ (result ≡ 3) }
+    // The refusals come just where the words, the script and the files call for them, but for want of memory and faults.
+    ensures usage { (result.status ≡ 2 → IsErr (command_of (map string_bytes words.now))) × (IsErr (command_of (map string_bytes words.now)) → (result.status ≡ 2) ⊎ (result.status ≡ 5)) }
+    ensures script { (script : List ℕ) → command_of (map string_bytes words.now) ≡ Ok command.Trace → S.left source.old ≡ Some script → RefusesScript script result.status }
+    ensures store { (script : List ℕ) (lines : List Line) → command_of (map string_bytes words.now) ≡ Ok command.Trace → S.left source.old ≡ Some script → AsksFor script lines → IsTrue D.told → RefusesStore (D.files disk 0) result.status }
+    ensures init { (settings : Settings) → command_of (map string_bytes words.now) ≡ Ok (command.Init settings) → IsTrue D.told → RefusesInit (D.files disk 0) result.status }
+    ensures complete { (script : List ℕ) (lines : List Line) → command_of (map string_bytes words.now) ≡ Ok command.Trace → IsValidTrace D.Disk disk result.disk (S.left source.old) (S.faults source.old) (S.faults source.new) (K.faults sink.old) (K.faults sink.new) script lines → (result.status ≡ 0) ⊎ (result.status ≡ 3) }
+    ensures complete_init { (settings : Settings) → command_of (map string_bytes words.now) ≡ Ok (command.Init settings) → IsTrue D.told → HasNoStore (D.files disk 0) → ¬ Rose (K.faults sink.old) (K.faults sink.new) → ¬ DiskRose (D.faults disk) (D.faults result.disk) → (result.status ≡ 0) ⊎ (result.status ≡ 3) }
 {
-    match bad_word(words) {
-        Some(word) => finish(sink, Ending::Usage { word }),
-        None => trace(alloc, source, sink),
+    let mut disk = disk;
+    let status = run_command(alloc, words, source, sink, &mut disk);
+    Exit { status, disk }
+}
+
+fn run_command<S: Source, K: Sink, D: Disk>(
+    alloc: Global,
+    words: &[String],
+    source: &mut S,
+    sink: &mut K,
+    disk: &mut D,
+) -> u8
+    ensures { Ran (command_of (map string_bytes words.now)) D.Disk disk.old disk.new (S.left source.old) (S.left source.new) (S.faults source.old) (S.faults source.new) (K.written sink.old) (K.written sink.new) (K.faults sink.old) (K.faults sink.new) result }
+{
+    match command_of(words) {
+        Ok(Command::Init(config)) => make(alloc, &config, sink, disk),
+        Ok(Command::Trace) => trace(alloc, source, sink, disk),
+        Ok(Command::Help) => say(sink, HELP),
+        Ok(Command::Version) => say(sink, VERSION),
+        Err(word) => finish(sink, Ending::Usage { word }),
     }
 }
 
-// The first word that is not of the form.
-fn bad_word(words: &[String]) -> Option<usize>
-    ensures { result ≡ bad_word (map string_bytes words.now) }
+// Writes a text, and flushes the sink.
+fn say<K: Sink>(sink: &mut K, text: &str) -> u8
+    ensures { Says (K.written sink.old) (K.written sink.new) (K.faults sink.old) (K.faults sink.new) text.now 0 result }
 {
-    let Some(command) = words.first() else {
-        return Some(0);
-    };
-    if command.as_str() != "trace" {
-        Some(0)
-    } else if words.len() > 1 {
-        Some(1)
-    } else {
-        None
+    if sink.put(text.as_bytes()).is_err() {
+        return WRITE_FAULT;
+    }
+    finish(sink, Ending::Done)
+}
+
+// Makes a store.
+fn make<K: Sink, D: Disk>(alloc: Global, config: &Config, sink: &mut K, disk: &mut D) -> u8
+    requires { SettingsFit config.now }
+    ensures { Inited D.Disk disk.old disk.new config.now (K.written sink.old) (K.written sink.new) (K.faults sink.old) (K.faults sink.new) result }
+{
+    match init(alloc, disk, config) {
+        Ok(()) => say(sink, "store made\n"),
+        Err(fault) => finish(sink, Ending::from(fault)),
     }
 }
 
@@ -104,11 +157,11 @@ struct Session {
 }
 
 impl Session {
-    fn new(alloc: Global) -> Result<Session, NoMemory>
-        ensures { IfOk result (λ s. (s.store ≡ empty_state) × (s.views ≡ replicate 8 []) × (s.place ≡ 0) × (s.refused ≡ false)) }
+    fn new(alloc: Global, store: Store) -> Result<Session, NoMemory>
+        ensures { IfOk result (λ s. (s.store.hot ≡ store.hot) × (s.store.views ≡ store.views) × (s.views ≡ replicate 8 []) × (s.place ≡ 0) × (s.refused ≡ false)) }
     {
         Ok(Session {
-            store: Store::new(alloc),
+            store,
             views: Views::new(alloc)?,
             place: 0,
             refused: false,
@@ -116,13 +169,21 @@ impl Session {
     }
 
     // Makes the call of a line and prints its entry.
-    fn step<K: Sink>(&mut self, alloc: Global, sink: &mut K, line: Line) -> Result<(), NoMemory>
+    fn step<K: Sink, D: Disk>(
+        &mut self,
+        alloc: Global,
+        sink: &mut K,
+        disk: &mut D,
+        line: Line,
+    ) -> Result<(), NoMemory>
         requires client { line.client < 8 }
         requires place { self.old.place < 2 ^ 63 }
-        ensures step { (made : List Line) (old : Option (List ℕ)) (had : ℕ) → Progress self.old.store self.old.views self.old.place self.old.refused made old (K.written sink.old) had (K.faults sink.old) → Stepped self.new.store self.new.views self.new.place self.new.refused (made ++ line ∷ []) old (K.written sink.new) had (K.faults sink.new) result }
+        requires known { self.old.store.hot.log.end + 1 ≤ D.known disk.old 0 }
+        ensures step { (was : _) (made : List Line) (old : Option (List ℕ)) (had : ℕ) → Progress D.Disk was disk.old self.old.store.hot self.old.store.views self.old.views self.old.place self.old.refused made old (K.written sink.old) had (K.faults sink.old) → Stepped D.Disk was disk.new self.new.store.hot self.new.store.views self.new.views self.new.place self.new.refused (made ++ line ∷ []) old (K.written sink.new) had (K.faults sink.new) result }
         ensures place { self.new.place ≡ self.old.place + 1 }
+        ensures known { self.new.store.hot.log.end + 1 ≤ D.known disk.new 0 }
     {
-        let entry = make_call(alloc, &mut self.store, &self.views, line);
+        let entry = make_call(alloc, &mut self.store, &self.views, disk, line);
         self.place += 1;
         match print(alloc, sink, self.refused, self.place, &entry) {
             Ok(refused) => {
@@ -135,17 +196,31 @@ impl Session {
 }
 
 // Makes the call of a line.
-fn make_call(alloc: Global, store: &mut Store, views: &Views, line: Line) -> Entry
-    requires { line.client < 8 }
+fn make_call<D: Disk>(
+    alloc: Global,
+    store: &mut Store,
+    views: &Views,
+    disk: &mut D,
+    line: Line,
+) -> Entry
+    requires client { line.client < 8 }
+    requires known { store.old.hot.log.end + 1 ≤ D.known disk.old 0 }
     ensures client { result.client ≡ line.client }
     ensures line { result.line ≡ line.line }
     ensures call { result.call ≡ resolved (client_views views.now line.client) line.call }
-    ensures lawful { Lawful store.old result.call result.answer }
-    ensures after { store.new ≡ After store.old result.call result.answer }
+    ensures lawful { (s : State) → IsTrue D.told → Serves D.Disk disk.old store.old.hot store.old.views s → Lawful s result.call result.answer }
+    ensures after { (s : State) → IsTrue D.told → Serves D.Disk disk.old store.old.hot store.old.views s → Serves D.Disk disk.new store.new.hot store.new.views (After s result.call result.answer) }
+    ensures end { (s : State) → IsTrue D.told → Serves D.Disk disk.old store.old.hot store.old.views s → store.new.hot.log.end ≡ end_after s store.old.hot.log.end result.call result.answer }
+    ensures room { OfFullLog (λ file need room. (file ≡ 0) × (room ≡ store.old.hot.settings.limit - 1 - store.old.hot.log.end)) result.answer }
+    ensures known { store.new.hot.log.end + 1 ≤ D.known disk.new 0 }
+    ensures fault { IsTrue (is_disk_fault result.answer) → DiskRose (D.faults disk.old) (D.faults disk.new) }
+    ensures settings { store.new.hot.settings ≡ store.old.hot.settings }
+    ensures doubt { doubt_after store.old.hot.log.unsure result.call result.answer ≡ false → store.new.hot.log.unsure ≡ false }
+    ensures touches { Touches D.Disk 0 disk.old disk.new }
 {
     let Line { client, line, call } = line;
     let call = views.resolve(client, call);
-    let answer = store.call(alloc, &call);
+    let answer = store.call(alloc, disk, &call);
     Entry {
         client,
         line,
@@ -162,18 +237,25 @@ struct Calls {
 }
 
 // Makes the calls of the lines, in order, and prints each entry as it is made.
-fn make_calls<K: Sink>(alloc: Global, lines: Vec<Line>, sink: &mut K) -> Calls
-    requires { All (λ line. line.client < 8) lines.items }
-    ensures { Made lines.items (K.written sink.old) (K.written sink.new) (K.faults sink.old) (K.faults sink.new) result.ending result.refused }
+fn make_calls<K: Sink, D: Disk>(
+    alloc: Global,
+    store: Store,
+    lines: Vec<Line>,
+    sink: &mut K,
+    disk: &mut D,
+) -> Calls
+    requires clients { All (λ line. line.client < 8) lines.items }
+    requires known { store.hot.log.end + 1 ≤ D.known disk.old 0 }
+    ensures { (was : _) → Story D.Disk was disk.old store.hot store.views [] → Made D.Disk was disk.new lines.items (K.written sink.old) (K.written sink.new) (K.faults sink.old) (K.faults sink.new) result.ending result.refused }
 {
-    let Ok(mut session) = Session::new(alloc) else {
+    let Ok(mut session) = Session::new(alloc, store) else {
         return Calls {
             ending: Ending::NoMemory,
             refused: false,
         };
     };
     for line in lines {
-        if let Err(NoMemory) = session.step(alloc, sink, line) {
+        if let Err(NoMemory) = session.step(alloc, sink, disk, line) {
             return Calls {
                 ending: Ending::NoMemory,
                 refused: session.refused,
@@ -206,9 +288,14 @@ fn print<K: Sink>(
     }
 }
 
-// Reads the script and makes its calls.
-fn trace<S: Source, K: Sink>(alloc: Global, source: &mut S, sink: &mut K) -> u8
-    ensures { Traced (S.left source.old) (S.left source.new) (S.faults source.old) (S.faults source.new) (K.written sink.old) (K.written sink.new) (K.faults sink.old) (K.faults sink.new) result }
+// Reads the script, opens the store and makes the calls.
+fn trace<S: Source, K: Sink, D: Disk>(
+    alloc: Global,
+    source: &mut S,
+    sink: &mut K,
+    disk: &mut D,
+) -> u8
+    ensures { Traced D.Disk disk.old disk.new (S.left source.old) (S.left source.new) (S.faults source.old) (S.faults source.new) (K.written sink.old) (K.written sink.new) (K.faults sink.old) (K.faults sink.new) result }
 {
     let text = match read_all(alloc, source) {
         Ok(text) => text,
@@ -220,7 +307,11 @@ fn trace<S: Source, K: Sink>(alloc: Global, source: &mut S, sink: &mut K) -> u8
         Ok(lines) => lines,
         Err(fault) => return finish(sink, Ending::from(fault)),
     };
-    let calls = make_calls(alloc, lines, sink);
+    let store = match Store::open(alloc, disk) {
+        Ok(store) => store,
+        Err(fault) => return finish(sink, Ending::from(fault)),
+    };
+    let calls = make_calls(alloc, store, lines, sink, disk);
     if calls.refused {
         WRITE_FAULT
     } else {

@@ -16,17 +16,22 @@ use std::str;
 /// A call as a script line asks for it. The view is the client's own count of its `open` lines, from 0.
 #[derive(Debug, Drop)]
 pub enum ScriptCall {
+    /// Opens a view.
     OpenView,
+    /// Puts blocks through a view.
     Put { view: u32, parcel: Parcel },
+    /// Reads a block through a view.
     Get { view: u32, cid: Cid },
 }
 
 /// A script line that holds a call.
 #[derive(Debug, Drop)]
 pub struct Line {
+    /// The client that calls, from 0 to 7.
     pub client: u8,
     /// The line's number, from 1.
     pub line: u32,
+    /// What the client asks for.
     pub call: ScriptCall,
 }
 
@@ -54,7 +59,9 @@ impl ScriptKind {
 /// Why a script is not read.
 #[derive(Clone, Copy, Debug, PartialEq, Eq)]
 pub enum ScriptFault {
+    /// The line of this number, from 1, is not of the form.
     Bad { line: u32, kind: ScriptKind },
+    /// Memory was wanting.
     NoMemory,
 }
 
@@ -141,7 +148,7 @@ fn number(field: &[u8]) -> Option<u32>
 }
 
 // Digits, of which the first is no zero unless it stands alone.
-fn is_number(field: &[u8]) -> bool
+pub(crate) fn is_number(field: &[u8]) -> bool
     ensures { result ≡ is_number field.now }
 {
     !field.is_empty() && is_all_digits(field) && (field.len() == 1 || field[0] != b'0')

@@ -1,40 +1,131 @@
+mod crash;
+mod damage;
+mod disk;
+
 use super::blocks::{BlockFault, check_block};
-use super::run_alone;
+use super::{Exit, run_alone};
 use ss_cid::{Bytes, Cid};
+use ss_disk::{Disk, MemoryDisk};
 use ss_io::{MemorySink, MemorySource};
 use std::alloc::Global;
 use std::test::Fail;
-
-// A run over ends in memory that fail at these calls: its status and what it wrote.
-fn run(
-    alloc: Global,
-    words: &[&str],
-    script: &str,
-    failing_read: Option<u64>,
-    failing_put: Option<u64>,
-) -> Result<(u8, String), Fail> {
-    let mut owned = Vec::new(alloc);
-    for word in words {
-        owned.push(String::from_str(alloc, word)?)?;
-    }
-    let mut source = MemorySource::new(alloc, Bytes::from_slice(alloc, script.as_bytes())?);
-    if let Some(call) = failing_read {
-        source.fail_at(call)?;
-    }
-    let mut sink = MemorySink::new(alloc);
-    if let Some(call) = failing_put {
-        sink.fail_at(call)?;
-    }
-    let status = run_alone(alloc, owned.as_slice(), &mut source, &mut sink);
-    let written = String::from_utf8_lossy(alloc, sink.written())?;
-    Ok((status, written))
-}
 
 const ABC: &str = "01551220ba7816bf8f01cfea414140de5dae2223b00361a396177a9cb410ff61f20015ad";
 
 const ABC_TEXT: &str = "bafkreif2pall7dybz7vecqka3zo24irdwabwdi4wc55jznaq75q7eaavvu";
 
 const NOTHING: &str = "01551220e3b0c44298fc1c149afbf4c8996fb92427ae41e4649b934ca495991b7852b855";
+
+/// An array of one link, to the block of no bytes.
+const LINK: &str = "01711220e23ea7332f00f1a1e026c0c4628d7dbebe36dfd743c84a1e564c0efc387a97d8";
+
+const LINK_BYTES: &str =
+    "81d82a58250001551220e3b0c44298fc1c149afbf4c8996fb92427ae41e4649b934ca495991b7852b855";
+
+/// What a run came to.
+#[derive(Drop)]
+struct Ran {
+    status: u8,
+    written: String,
+    disk: MemoryDisk,
+}
+
+/// The call of an end, if any, that is to fail.
+#[derive(Clone, Copy)]
+enum Failing {
+    None,
+    Read(u64),
+    Put(u64),
+}
+
+// A run over ends in memory.
+fn run(alloc: Global, words: &str, script: &str, disk: MemoryDisk) -> Result<Ran, Fail> {
+    run_failing(alloc, words, script, disk, Failing::None)
+}
+
+// A run over ends in memory, of which one fails at this call.
+fn run_failing(
+    alloc: Global,
+    words: &str,
+    script: &str,
+    disk: MemoryDisk,
+    failing: Failing,
+) -> Result<Ran, Fail> {
+    let mut owned = Vec::new(alloc);
+    for word in words.split_whitespace() {
+        owned.push(String::from_str(alloc, word)?)?;
+    }
+    let mut source = MemorySource::new(alloc, Bytes::from_slice(alloc, script.as_bytes())?);
+    let mut sink = MemorySink::new(alloc);
+    match failing {
+        Failing::None => {}
+        Failing::Read(call) => source.fail_at(call)?,
+        Failing::Put(call) => sink.fail_at(call)?,
+    }
+    let Exit { status, disk } = run_alone(alloc, owned.as_slice(), &mut source, &mut sink, disk);
+    let written = String::from_utf8_lossy(alloc, sink.written())?;
+    Ok(Ran {
+        status,
+        written,
+        disk,
+    })
+}
+
+// A disk with a store of these settings, of which no call is counted yet.
+fn made(alloc: Global, settings: &str) -> Result<MemoryDisk, Fail> {
+    let words = format!(in alloc; "init mode=discard {settings}")?;
+    let ran = run(alloc, words.as_str(), "", MemoryDisk::new(alloc)?)?;
+    Ok(ran.disk.crash(alloc, 0)?)
+}
+
+// What the lines that a run wrote say behind the call of an entry, and lines of another form whole.
+fn answers(alloc: Global, written: &str) -> Result<String, Fail> {
+    let mut answers = String::new(alloc);
+    for line in written.lines() {
+        let answer = match line.split_once(" = ") {
+            Some((_, answer)) => answer,
+            None => line,
+        };
+        if !answers.is_empty() {
+            answers.push_str("; ")?;
+        }
+        answers.push_str(answer)?;
+    }
+    Ok(answers)
+}
+
+// The bytes of file 0.
+fn hot_log(alloc: Global, disk: &mut MemoryDisk) -> Result<Vec<u8>, Fail> {
+    let size = disk.size(0)?.min(1 << 20);
+    let mut bytes = vec![in alloc; 0u8; size as usize]?;
+    disk.read(0, 0, bytes.as_mut_slice())?;
+    Ok(bytes)
+}
+
+// A script that reads three blocks.
+fn reads(alloc: Global) -> Result<String, Fail> {
+    Ok(format!(in alloc; "0 open\n0 get 0 {ABC}\n0 get 0 {NOTHING}\n0 get 0 {LINK}\n")?)
+}
+
+// The answers of a run of that script, where these of the three are kept.
+fn found(alloc: Global, kept: &[bool]) -> Result<String, Fail> {
+    let mut told = String::from_str(alloc, "opened 0")?;
+    for (kept, block) in kept.iter().zip(["616263", "-", LINK_BYTES]) {
+        if *kept {
+            told.push_str("; found ")?;
+            told.push_str(block)?;
+        } else {
+            told.push_str("; not-found")?;
+        }
+    }
+    Ok(told)
+}
+
+// A run of that script: its status and its answers.
+fn reading(alloc: Global, disk: MemoryDisk) -> Result<(u8, String), Fail> {
+    let ran = run(alloc, "trace", reads(alloc)?.as_str(), disk)?;
+    Ok((ran.status, answers(alloc, ran.written.as_str())?))
+}
 
 #[test]
 fn a_trace_prints_each_call_with_its_answer(rt: HostRuntime) -> Result<(), Fail> {
@@ -87,30 +178,32 @@ fn a_trace_prints_each_call_with_its_answer(rt: HostRuntime) -> Result<(), Fail>
         // BLAKE2b of `abc`, and an array of one link.
         (
             format!(in rt.alloc();
-                "0 open\n0 put 0 bafk2bzacec653aj4mnbds4rrohxt73uyk6nzjfsohoy4wpscojrmrqdi2urrs 616263 01711220e23ea7332f00f1a1e026c0c4628d7dbebe36dfd743c84a1e564c0efc387a97d8 81d82a58250001551220e3b0c44298fc1c149afbf4c8996fb92427ae41e4649b934ca495991b7852b855\n"
+                "0 open\n0 put 0 bafk2bzacec653aj4mnbds4rrohxt73uyk6nzjfsohoy4wpscojrmrqdi2urrs 616263 {LINK} {LINK_BYTES}\n"
             )?,
             "1 0 1 open = opened 0\n2 0 2 put 0 = stored 2\n",
         ),
     ];
     for (script, printed) in &table {
-        let (status, written) = run(rt.alloc(), &["trace"], script.as_str(), None, None)?;
-        assert_eq!(rt; written.as_str(), *printed);
-        assert_eq!(rt; status, 0);
+        let disk = made(rt.alloc(), "depth=0")?;
+        let ran = run(rt.alloc(), "trace", script.as_str(), disk)?;
+        assert_eq!(rt; (ran.status, ran.written.as_str()), (0, *printed));
     }
     Ok(())
 }
 
 #[test]
 fn words_and_lines_that_are_not_of_the_form(rt: HostRuntime) -> Result<(), Fail> {
-    let none: [&str; 0] = [];
     let usage = [
-        (none.as_slice(), "error: usage 0\n"),
-        (&["walk"], "error: usage 0\n"),
-        (&["trace", "x=1"], "error: usage 1\n"),
+        ("", "error: usage 0\n"),
+        ("walk", "error: usage 0\n"),
+        ("trace x=1", "error: usage 1\n"),
+        ("init", "error: usage 1\n"),
+        ("init mode=warm", "error: usage 1\n"),
     ];
     for (words, line) in usage {
-        let (status, written) = run(rt.alloc(), words, "0 open\n", None, None)?;
-        assert_eq!(rt; (status, written.as_str()), (2, line));
+        let ran = run(rt.alloc(), words, "0 open\n", MemoryDisk::new(rt.alloc())?)?;
+        assert_eq!(rt; (ran.status, ran.written.as_str()), (2, line));
+        assert_eq!(rt; ran.disk.calls(), 0);
     }
     let lines = [
         "8 open",
@@ -127,12 +220,18 @@ fn words_and_lines_that_are_not_of_the_form(rt: HostRuntime) -> Result<(), Fail>
     ];
     for line in lines {
         let script = format!(in rt.alloc(); "# first\n0 open\n{line}\n")?;
-        let (status, written) = run(rt.alloc(), &["trace"], script.as_str(), None, None)?;
+        let ran = run(
+            rt.alloc(),
+            "trace",
+            script.as_str(),
+            MemoryDisk::new(rt.alloc())?,
+        )?;
         assert_eq!(rt;
-            (status, written.as_str()),
+            (ran.status, ran.written.as_str()),
             (9, "error: script 3 9\n"),
             "at {line}"
         );
+        assert_eq!(rt; ran.disk.calls(), 0);
     }
     Ok(())
 }
@@ -140,19 +239,28 @@ fn words_and_lines_that_are_not_of_the_form(rt: HostRuntime) -> Result<(), Fail>
 #[test]
 fn ends_that_fail(rt: HostRuntime) -> Result<(), Fail> {
     // Two reads take the script, and a third finds its end.
-    let mut script = String::from_str(rt.alloc(), "0 open\n#")?;
-    for _ in 0..9000 {
-        script.push('#')?;
-    }
+    let comment = "#".repeat(rt.alloc(), 9000)?;
+    let script = format!(in rt.alloc(); "0 open\n{comment}")?;
     let line = "1 0 1 open = opened 0\n";
     for call in 0..4 {
-        let ran = run(rt.alloc(), &["trace"], script.as_str(), Some(call), None)?;
+        let disk = made(rt.alloc(), "depth=0")?;
+        let ran = run_failing(
+            rt.alloc(),
+            "trace",
+            script.as_str(),
+            disk,
+            Failing::Read(call),
+        )?;
         let wanted = if call < 3 {
             (4, "error: read fault\n")
         } else {
             (0, line)
         };
-        assert_eq!(rt; (ran.0, ran.1.as_str()), wanted, "at read {call}");
+        assert_eq!(rt;
+            (ran.status, ran.written.as_str()),
+            wanted,
+            "at read {call}"
+        );
     }
     // Three lines are three puts, and then comes the flush.
     let script = "0 open\n1 open\n2 open\n";
@@ -163,55 +271,47 @@ fn ends_that_fail(rt: HostRuntime) -> Result<(), Fail> {
         "1 0 1 open = opened 0\n2 1 2 open = opened 1\n3 2 3 open = opened 2\n",
     ];
     for (call, written) in lines.iter().enumerate() {
-        let ran = run(rt.alloc(), &["trace"], script, None, Some(call as u64))?;
-        assert_eq!(rt; ran.0, 5, "at put {call}");
-        assert!(rt; ran.1.as_str().starts_with(*written), "at put {call}");
+        let disk = made(rt.alloc(), "depth=0")?;
+        let ran = run_failing(rt.alloc(), "trace", script, disk, Failing::Put(call as u64))?;
+        assert_eq!(rt;
+            (ran.status, ran.written.as_str()),
+            (5, *written),
+            "at put {call}"
+        );
     }
     Ok(())
 }
 
 #[test]
 fn a_script_that_is_too_long(rt: HostRuntime) -> Result<(), Fail> {
-    let mut script = vec![in rt.alloc(); b'#'; 16777217]?;
-    let words = [String::from_str(rt.alloc(), "trace")?];
-    for (status, line) in [(13, "error: too long\n"), (0, "")] {
-        let content = Bytes::from_slice(rt.alloc(), script.as_slice())?;
-        let mut source = MemorySource::new(rt.alloc(), content);
-        let mut sink = MemorySink::new(rt.alloc());
-        let ran = run_alone(rt.alloc(), &words, &mut source, &mut sink);
-        assert_eq!(rt; ran, status);
-        assert_eq!(rt; sink.written(), line.as_bytes());
-        let _ = script.pop();
+    // As many bytes as a script may have.
+    let full = "#".repeat(rt.alloc(), 4096)?.repeat(rt.alloc(), 4096)?;
+    for (more, status, line) in [("#", 13, "error: too long\n"), ("", 0, "")] {
+        let script = format!(in rt.alloc(); "{full}{more}")?;
+        let disk = made(rt.alloc(), "depth=0")?;
+        let ran = run(rt.alloc(), "trace", script.as_str(), disk)?;
+        assert_eq!(rt; (ran.status, ran.written.as_str()), (status, line));
     }
     Ok(())
 }
 
 #[test]
 fn puts_that_are_too_big(rt: HostRuntime) -> Result<(), Fail> {
-    let mut script = String::from_str(rt.alloc(), "0 open\n0 put 0")?;
-    for _ in 0..1025 {
-        script.push_str(" bafkqaaa -")?;
-    }
-    // The CID of 7,000,000 zero bytes, which count for each pair that names it once they are kept.
-    let zeros = "01551220a93b7ad03c9729e20b2695660db0e74326b26744834f575d5252f1b4d2dd6299";
-    script.push_str("\n0 put 0 ")?;
-    script.push_str(zeros)?;
-    script.push(' ')?;
-    for _ in 0..14000000 {
-        script.push('0')?;
-    }
-    script.push_str("\n0 put 0")?;
-    for _ in 0..3 {
-        script.push(' ')?;
-        script.push_str(zeros)?;
-        script.push_str(" -")?;
-    }
-    let (status, written) = run(rt.alloc(), &["trace"], script.as_str(), None, None)?;
+    let many = " bafkqaaa -".repeat(rt.alloc(), 1025)?;
+    // The CID of 65,433 zero bytes, which count for each pair that names it once they are kept.
+    let zeros = "015512203c4e566dd10b8510fc2fec496bf4ac95054c25b5bce2680a24501a3c80ee1fc0";
+    let bytes = "00".repeat(rt.alloc(), 65433)?;
+    let most = format!(in rt.alloc(); " {zeros} -")?.repeat(rt.alloc(), 240)?;
+    let script = format!(in rt.alloc();
+        "0 open\n0 put 0{many}\n0 put 0 {zeros} {bytes}\n0 put 0{most}\n0 put 0{most} {zeros} -"
+    )?;
+    let disk = made(rt.alloc(), "depth=0")?;
+    let ran = run(rt.alloc(), "trace", script.as_str(), disk)?;
     assert_eq!(rt;
-        written.as_str(),
-        "1 0 1 open = opened 0\n2 0 2 put 0 = too-many 1025\n3 0 3 put 0 = stored 1\n4 0 4 put 0 = too-big 21000123\n"
+        answers(rt.alloc(), ran.written.as_str())?.as_str(),
+        "opened 0; too-many 1025; stored 1; mismatch 0; too-big 15778996"
     );
-    assert_eq!(rt; status, 0);
+    assert_eq!(rt; ran.status, 0);
     Ok(())
 }
 

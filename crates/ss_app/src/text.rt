@@ -123,6 +123,9 @@ fn push_put_reply(line: &mut String, reply: PutReply) -> Result<(), AllocError>
         }
         PutReply::Mismatch { i } => write!(line, "mismatch {i}"),
         PutReply::NoMemory => line.push_str("no-memory"),
+        PutReply::TableFull { rows } => write!(line, "table-full {rows}"),
+        PutReply::LogFull { file, need, room } => write!(line, "log-full {file} {need} {room}"),
+        PutReply::DiskFault => line.push_str("fault"),
         PutReply::Stored { new } => write!(line, "stored {new}"),
     }
 }
@@ -140,6 +143,7 @@ fn push_get_reply(alloc: Global, line: &mut String, reply: &GetReply) -> Result<
         GetReply::BadView => line.push_str("bad-view"),
         GetReply::NotFound => line.push_str("not-found"),
         GetReply::NoMemory => line.push_str("no-memory"),
+        GetReply::DiskFault => line.push_str("fault"),
         GetReply::Found(block) => {
             line.push_str("found ")?;
             push_bytes(alloc, line, block.as_slice())

@@ -1,15 +1,18 @@
--- What is kept stays, and is valid.
+-- What is kept stays, is valid, is under no identity CID, is hot, and fits its table.
 use Rattle.std.proofs.Common.{◌≡◌, ◌≢◌, ◌⊎◌, ⊎_elim, inl, inr, ℕ, zero, suc, Bool, true, false, cond, List, [], ◌∷◌, Option, Some, None, refl, sym, ap, ◌∙◌, subst, true≢false, arith}
-use Rattle.std.specs.Prelude.{is_some, slice_get}
+use Rattle.std.specs.Prelude.{◌≤◌, ◌||◌, is_some, slice_get}
 use Rattle.std.specs.Ordering.{nat_cmp, eq_by_cmp}
 use Rattle.std.specs.Cmp.{Equal-is, tied_itself}
 use Rattle.std.specs.Cmp.Lexicographic.{slice_cmp, nat_list_cmp_total}
 use Rattle.std.specs.FinMap as map
-use Rattle.std.specs.FinMap.{get-insert, get-empty, slice_cmp-IsAntisymmetric, nat_cmp-IsAntisymmetric}
+use Rattle.std.specs.FinMap.{get-insert, get-empty, len-empty, slice_cmp-IsAntisymmetric, nat_cmp-IsAntisymmetric}
+use Rattle.std.specs.FinSet as set
+use Rattle.std.specs.FinSet.{contains-insert, contains-empty}
 use Rattle.ss_cid.specs.Cid.{identity_of}
 use Rattle.ss_hash.specs.Digest.{IsValid}
-use Rattle.ss_model.specs.State.{Kept, State, empty_state}
-use Rattle.ss_model.specs.Lawful.{or_else, fetched, with_block, with_blocks, AreSound, IsPassed, Lawful, LawfulGet, after_put, After}
+use Rattle.ss_records.specs.declared.record.Config.{Config as Settings}
+use Rattle.ss_model.specs.State.{Kept, CidSet, State, empty_state}
+use Rattle.ss_model.specs.Lawful.{or_else, fetched, with_block, with_blocks, with_hot_cid, with_hot, AreSound, IsAdmitted, Lawful, LawfulGet, after_put, After}
 use Rattle.ss_model.specs.History.{Legal, AfterAll}
 use Rattle.ss_model.specs.declared.call.Call.{Call}
 use Rattle.ss_model.specs.declared.call.Call.TheVariants as call
@@ -51,30 +54,33 @@ blocks_stay : (kept : Kept) (pairs : List (List ℕ × List ℕ)) (c b : List �
 blocks_stay kept [] c b is = is
 blocks_stay kept (p ∷ pairs) c b is = blocks_stay (with_block kept p) pairs c b (block_stays kept p c b is)
 
--- only a put that stored changes what is kept, and its parcel passed
-step_stays : (s : State) (k : Call) (a : Answer) (P : Kept → Type 0) → P s.kept → ((v : ℕ) (pairs : List (List ℕ × List ℕ)) → (Lawful s k a → IsPassed s v pairs) → P (with_blocks s.kept pairs)) → P (After s k a).kept
-step_stays s call.OpenView (answer.View (view.Opened n)) P same more = same
-step_stays s call.OpenView (answer.View view.TooManyViews) P same more = same
-step_stays s call.OpenView (answer.Put r) P same more = same
-step_stays s call.OpenView (answer.Get r) P same more = same
-step_stays s (call.Put v pairs) (answer.View r) P same more = same
-step_stays s (call.Put v pairs) (answer.Get r) P same more = same
-step_stays s (call.Put v pairs) (answer.Put (put.Stored new)) P same more = more v pairs (λ lawful. lawful.0)
-step_stays s (call.Put v pairs) (answer.Put put.BadView) P same more = same
-step_stays s (call.Put v pairs) (answer.Put (put.TooMany n)) P same more = same
-step_stays s (call.Put v pairs) (answer.Put (put.TooBig n)) P same more = same
-step_stays s (call.Put v pairs) (answer.Put (put.TooLarge i)) P same more = same
-step_stays s (call.Put v pairs) (answer.Put (put.UnknownHash i)) P same more = same
-step_stays s (call.Put v pairs) (answer.Put (put.Mismatch i)) P same more = same
-step_stays s (call.Put v pairs) (answer.Put (put.Malformed i kind at)) P same more = same
-step_stays s (call.Put v pairs) (answer.Put put.NoMemory) P same more = same
-step_stays s (call.Get v c) (answer.View r) P same more = same
-step_stays s (call.Get v c) (answer.Put r) P same more = same
-step_stays s (call.Get v c) (answer.Get r) P same more = same
+-- only a put that stored changes settings, blocks and hot CIDs, and it was admitted
+step_keeps : (s : State) (k : Call) (a : Answer) (P : Settings → Kept → CidSet → Type 0) → P s.config s.kept s.hot → ((v : ℕ) (pairs : List (List ℕ × List ℕ)) → (Lawful s k a → IsAdmitted s v pairs) → P s.config (with_blocks s.kept pairs) (with_hot s.hot pairs)) → P (After s k a).config (After s k a).kept (After s k a).hot
+step_keeps s call.OpenView (answer.View (view.Opened n)) P same more = same
+step_keeps s call.OpenView (answer.View view.TooManyViews) P same more = same
+step_keeps s call.OpenView (answer.Put r) P same more = same
+step_keeps s call.OpenView (answer.Get r) P same more = same
+step_keeps s (call.Put v pairs) (answer.View r) P same more = same
+step_keeps s (call.Put v pairs) (answer.Get r) P same more = same
+step_keeps s (call.Put v pairs) (answer.Put (put.Stored new)) P same more = more v pairs (λ lawful. lawful.0)
+step_keeps s (call.Put v pairs) (answer.Put put.BadView) P same more = same
+step_keeps s (call.Put v pairs) (answer.Put (put.TooMany n)) P same more = same
+step_keeps s (call.Put v pairs) (answer.Put (put.TooBig n)) P same more = same
+step_keeps s (call.Put v pairs) (answer.Put (put.TooLarge i)) P same more = same
+step_keeps s (call.Put v pairs) (answer.Put (put.UnknownHash i)) P same more = same
+step_keeps s (call.Put v pairs) (answer.Put (put.Mismatch i)) P same more = same
+step_keeps s (call.Put v pairs) (answer.Put (put.Malformed i kind at)) P same more = same
+step_keeps s (call.Put v pairs) (answer.Put put.NoMemory) P same more = same
+step_keeps s (call.Put v pairs) (answer.Put (put.TableFull rows)) P same more = same
+step_keeps s (call.Put v pairs) (answer.Put (put.LogFull file need room)) P same more = same
+step_keeps s (call.Put v pairs) (answer.Put put.DiskFault) P same more = same
+step_keeps s (call.Get v c) (answer.View r) P same more = same
+step_keeps s (call.Get v c) (answer.Put r) P same more = same
+step_keeps s (call.Get v c) (answer.Get r) P same more = same
 
 pub stays : (s : State) (h : List Entry) (c b : List ℕ) → map.get s.kept c ≡ Some b → map.get (AfterAll s h).kept c ≡ Some b
 stays s [] c b is = is
-stays s (e ∷ h) c b is = stays (After s e.call e.answer) h c b (step_stays s e.call e.answer (λ kept. map.get kept c ≡ Some b) is (λ v pairs passed. blocks_stay s.kept pairs c b is))
+stays s (e ∷ h) c b is = stays (After s e.call e.answer) h c b (step_keeps s e.call e.answer (λ config kept hot. map.get kept c ≡ Some b) is (λ v pairs admitted. blocks_stay s.kept pairs c b is))
 
 -- a CID that stands for a block goes on to
 
@@ -139,13 +145,100 @@ blocks_valid kept [] valid sound = valid
 blocks_valid kept (p ∷ pairs) valid sound =
     blocks_valid (with_block kept p) pairs (block_valid kept p valid (sound 0 p (omega arith) refl).valid) (λ k q within at. sound (suc k) q (omega arith) at)
 
-history_valid : (s : State) (h : List Entry) → AreValid s.kept → Legal s h → AreValid (AfterAll s h).kept
-history_valid s [] valid legal = valid
-history_valid s (e ∷ h) valid legal =
-    history_valid (After s e.call e.answer) h (step_stays s e.call e.answer AreValid valid (λ v pairs passed. blocks_valid s.kept pairs valid (passed legal.0).sound)) legal.1
+-- what each admitted put keeps, a legal history keeps
+history_keeps : (P : Settings → Kept → CidSet → Type 0) → ((s : State) (v : ℕ) (pairs : List (List ℕ × List ℕ)) → IsAdmitted s v pairs → P s.config s.kept s.hot → P s.config (with_blocks s.kept pairs) (with_hot s.hot pairs)) → (s : State) (h : List Entry) → P s.config s.kept s.hot → Legal s h → P (AfterAll s h).config (AfterAll s h).kept (AfterAll s h).hot
+history_keeps P puts s [] now legal = now
+history_keeps P puts s (e ∷ h) now legal =
+    history_keeps P puts (After s e.call e.answer) h (step_keeps s e.call e.answer P now (λ v pairs admitted. puts s v pairs (admitted legal.0) now)) legal.1
 
-pub kept_valid : (h : List Entry) (c b : List ℕ) → Legal empty_state h → map.get (AfterAll empty_state h).kept c ≡ Some b → IsValid c b
-kept_valid h c b legal is = history_valid empty_state h (λ k x none. absurd (nothing k x none)) legal c b is
+nothing_kept : (k x : List ℕ) → map.get (map.empty {X = List ℕ} {R = slice_cmp nat_cmp}) k ≡ Some x → ⊥
+nothing_kept k x none = true≢false (sym (ap is_some (sym (get-empty (slice_cmp nat_cmp) k) ∙ none)))
+
+pub kept_valid : (config : Settings) (h : List Entry) (c b : List ℕ) → Legal (empty_state config) h → map.get (AfterAll (empty_state config) h).kept c ≡ Some b → IsValid c b
+kept_valid config h c b legal is =
+    history_keeps (λ config kept hot. AreValid kept) (λ s v pairs admitted valid. blocks_valid s.kept pairs valid admitted.passed.sound) (empty_state config) h (λ k x none. absurd (nothing_kept k x none)) legal c b is
+
+-- what is kept is under no identity CID
+
+abbrev AreStored : Kept → Type 0
+AreStored kept = (c b : List ℕ) → map.get kept c ≡ Some b → identity_of c ≡ None
+
+no_identity : (id kept : Option (List ℕ)) → is_some (or_else id kept) ≡ false → id ≡ None
+no_identity (Some d) kept e = absurd (true≢false e)
+no_identity None kept e = refl
+
+block_stored : (kept : Kept) (p : List ℕ × List ℕ) → AreStored kept → AreStored (with_block kept p)
+unfolding with_block fetched
+block_stored kept p are c b = go (is_some (or_else (identity_of p.0) (map.get kept p.0))) refl
   where
-    nothing : (k x : List ℕ) → map.get (map.empty {X = List ℕ} {R = slice_cmp nat_cmp}) k ≡ Some x → ⊥
-    nothing k x none = true≢false (sym (ap is_some (sym (get-empty (slice_cmp nat_cmp) k) ∙ none)))
+    go : (known : Bool) → is_some (or_else (identity_of p.0) (map.get kept p.0)) ≡ known → map.get (cond known kept (map.insert kept p.0 p.1)) c ≡ Some b → identity_of c ≡ None
+    go true e is = are c b is
+    go false e is = ⊎_elim
+        (λ (same : (c ≡ p.0) × (map.get (map.insert kept p.0 p.1) c ≡ Some p.1)). subst (λ k. identity_of k ≡ None) (sym same.0) (no_identity (identity_of p.0) (map.get kept p.0) e))
+        (λ (other : map.get (map.insert kept p.0 p.1) c ≡ map.get kept c). are c b (sym other ∙ is))
+        (inserted kept p.0 p.1 c)
+
+blocks_stored : (kept : Kept) (pairs : List (List ℕ × List ℕ)) → AreStored kept → AreStored (with_blocks kept pairs)
+blocks_stored kept [] are = are
+blocks_stored kept (p ∷ pairs) are = blocks_stored (with_block kept p) pairs (block_stored kept p are)
+
+history_stored : (s : State) (h : List Entry) → AreStored s.kept → AreStored (AfterAll s h).kept
+history_stored s [] are = are
+history_stored s (e ∷ h) are = history_stored (After s e.call e.answer) h (step_keeps s e.call e.answer (λ config kept hot. AreStored kept) are (λ v pairs admitted. blocks_stored s.kept pairs are))
+
+pub no_identity_kept : (config : Settings) (h : List Entry) (c b : List ℕ) → map.get (AfterAll (empty_state config) h).kept c ≡ Some b → identity_of c ≡ None
+no_identity_kept config h c b is = history_stored (empty_state config) h (λ k x none. absurd (nothing_kept k x none)) c b is
+
+-- what is kept fits its table
+
+pub within_rows : (config : Settings) (h : List Entry) → Legal (empty_state config) h → map.len (AfterAll (empty_state config) h).kept ≤ config.rows
+within_rows config h legal = (history_keeps Within fits (empty_state config) h (refl, none) legal).1
+  where
+    Within : Settings → Kept → CidSet → Type 0
+    Within now kept hot = (now ≡ config) × (map.len kept ≤ config.rows)
+
+    fits : (s : State) (v : ℕ) (pairs : List (List ℕ × List ℕ)) → IsAdmitted s v pairs → Within s.config s.kept s.hot → Within s.config (with_blocks s.kept pairs) (with_hot s.hot pairs)
+    fits s v pairs admitted now = (now.0, subst (λ c. map.len (with_blocks s.kept pairs) ≤ c.rows) now.0 admitted.rows)
+
+    none : map.len (map.empty {X = List ℕ} {R = slice_cmp nat_cmp}) ≤ config.rows
+    none = subst (λ n. n ≤ config.rows) (sym (len-empty (slice_cmp nat_cmp) (List ℕ))) (omega arith)
+
+-- a table with a row for each block has one for each behind a legal history
+pub still_within : (s : State) (h : List Entry) → map.len s.kept ≤ s.config.rows → Legal s h → map.len (AfterAll s h).kept ≤ (AfterAll s h).config.rows
+still_within s h few legal = history_keeps (λ config kept hot. map.len kept ≤ config.rows) (λ t v pairs admitted now. admitted.rows) s h few legal
+
+-- what is kept is hot, and nothing else
+
+abbrev AreHot : Kept → CidSet → Type 0
+AreHot kept hot = (c : List ℕ) → set.contains hot c ≡ map.contains_key kept c
+
+block_hot : (kept : Kept) (hot : CidSet) (p : List ℕ × List ℕ) → AreHot kept hot → AreHot (with_block kept p) (with_hot_cid hot p.0)
+unfolding with_block with_hot_cid fetched
+block_hot kept hot p are c = by_identity (identity_of p.0)
+  where
+    known_before : (same : Bool) → eq_by_cmp (slice_cmp nat_cmp) c p.0 ≡ same → is_some (map.get kept p.0) ≡ true → (same || set.contains hot c) ≡ is_some (map.get kept c)
+    known_before true e known = sym (subst (λ k. is_some (map.get kept k) ≡ true) (sym (slice_cmp-IsAntisymmetric nat_cmp-IsAntisymmetric c p.0 ((Equal-is (slice_cmp nat_cmp c p.0)).0 e))) known)
+    known_before false e known = are c
+
+    new_now : (same : Bool) → (same || set.contains hot c) ≡ is_some (cond same (Some p.1) (map.get kept c))
+    new_now true = refl
+    new_now false = are c
+
+    by_known : (known : Bool) → is_some (map.get kept p.0) ≡ known → set.contains (set.insert hot p.0) c ≡ is_some (map.get (cond known kept (map.insert kept p.0 p.1)) c)
+    by_known true e = contains-insert nat_list_cmp_total hot p.0 c ∙ known_before _ refl e
+    by_known false e = contains-insert nat_list_cmp_total hot p.0 c ∙ new_now _ ∙ ap is_some (sym (get-insert nat_list_cmp_total kept p.0 p.1 c))
+
+    by_identity : (id : Option (List ℕ)) → set.contains (cond (is_some id) hot (set.insert hot p.0)) c ≡ is_some (map.get (cond (is_some (or_else id (map.get kept p.0))) kept (map.insert kept p.0 p.1)) c)
+    by_identity (Some d) = are c
+    by_identity None = by_known (is_some (map.get kept p.0)) refl
+
+blocks_hot : (kept : Kept) (hot : CidSet) (pairs : List (List ℕ × List ℕ)) → AreHot kept hot → AreHot (with_blocks kept pairs) (with_hot hot pairs)
+blocks_hot kept hot [] are = are
+blocks_hot kept hot (p ∷ pairs) are = blocks_hot (with_block kept p) (with_hot_cid hot p.0) pairs (block_hot kept hot p are)
+
+history_hot : (s : State) (h : List Entry) → AreHot s.kept s.hot → AreHot (AfterAll s h).kept (AfterAll s h).hot
+history_hot s [] are = are
+history_hot s (e ∷ h) are = history_hot (After s e.call e.answer) h (step_keeps s e.call e.answer (λ config kept hot. AreHot kept hot) are (λ v pairs admitted. blocks_hot s.kept s.hot pairs are))
+
+pub exactly_hot : (config : Settings) (h : List Entry) (c : List ℕ) → set.contains (AfterAll (empty_state config) h).hot c ≡ map.contains_key (AfterAll (empty_state config) h).kept c
+exactly_hot config h = history_hot (empty_state config) h (λ c. contains-empty (slice_cmp nat_cmp) c ∙ sym (ap is_some (get-empty (slice_cmp nat_cmp) c)))

@@ -1,8 +1,9 @@
 -- Which answer to a call is lawful at a state, and the state after it.
 --
--- Each call has a list of answers, and the lawful one is the first whose condition holds. Want of memory may stand in its
--- place in that list whatever the state: it is free. Only an answer that is named with an effect changes the state.
-use Rattle.std.specs.Prelude.{◌≡◌, ℕ, ◌+◌, ◌-◌, ◌^◌, ◌<◌, ◌≤◌, min, max, Bool, true, false, List, [], ◌∷◌, length, Option, None, Some, if◌then◌else◌, is_some, IsOk, Err, slice_get, sum_by}
+-- Each call has a list of answers, and the lawful one is the first whose condition holds. Three answers hang on more than
+-- the state: want of memory, a full log, whose room no state has, and a fault of the disk. Each may stand in its place in
+-- the list, and a later one too. Only an answer that is named with an effect changes the state.
+use Rattle.std.specs.Prelude.{◌≡◌, ◌≢◌, ℕ, ◌+◌, ◌-◌, ◌^◌, ◌<◌, ◌≤◌, min, max, Bool, true, false, ◌||◌, List, [], ◌∷◌, length, Option, None, Some, if◌then◌else◌, is_some, IsOk, Err, slice_get, sum_by}
 use Rattle.std.specs.FinMap as map
 use Rattle.std.specs.FinSet as set
 use Rattle.ss_cid.specs.Cid.{codec_of, identity_of}
@@ -52,6 +53,31 @@ with_hot_cid hot c = if is_some (identity_of c) then hot else set.insert hot c
 abbrev pub with_hot : CidSet → List (List ℕ × List ℕ) → CidSet
 with_hot hot [] = hot
 with_hot hot (p ∷ pairs) = with_hot (with_hot_cid hot p.0) pairs
+
+-- how many CIDs are kept once the blocks of the parcel are
+abbrev pub rows_after : State → List (List ℕ × List ℕ) → ℕ
+rows_after s pairs = map.len (with_blocks s.kept pairs)
+
+-- the record of a put leaves this CID out: it is an identity CID, or one of these
+unfoldable pub is_left_out : CidSet → List ℕ → Bool
+is_left_out hot c = is_some (identity_of c) || set.contains hot c
+
+-- the pairs of a parcel that the record of its put has, in order, each where its CID first stands
+abbrev pub new_pairs : CidSet → List (List ℕ × List ℕ) → List (List ℕ × List ℕ)
+new_pairs hot [] = []
+new_pairs hot (p ∷ pairs) = if is_left_out hot p.0 then new_pairs hot pairs else p ∷ new_pairs (set.insert hot p.0) pairs
+
+-- the bytes that one pair takes of a record: its CID, a length of four bytes, and its block
+abbrev pub written_bytes : List ℕ × List ℕ → ℕ
+written_bytes p = length p.0 + 4 + length p.1
+
+-- the bytes of the body of a record of these pairs: its kind, a count of two bytes, and the pairs
+abbrev pub body_bytes : List (List ℕ × List ℕ) → ℕ
+body_bytes pairs = 3 + sum_by written_bytes pairs
+
+-- the bytes that this record takes of a log: its gate, a length of four bytes, and its body
+abbrev pub pairs_need : List (List ℕ × List ℕ) → ℕ
+pairs_need pairs = 5 + body_bytes pairs
 
 -- how many bytes are kept under a CID
 abbrev pub length_of : Option (List ℕ) → ℕ
@@ -118,6 +144,11 @@ pub record IsPassed (s : State) (v : ℕ) (pairs : List (List ℕ × List ℕ)) 
   pub fitting : IsFitting s v pairs
   pub sound : AreSound pairs
 
+-- the put passes, and no more CIDs are kept after it than the settings allow
+pub record IsAdmitted (s : State) (v : ℕ) (pairs : List (List ℕ × List ℕ)) : Type 0 where
+  pub passed : IsPassed s v pairs
+  pub rows : rows_after s pairs ≤ s.config.rows
+
 -- the least number below the limit that is no open view's, if there is one
 abbrev pub LawfulView : State → ViewReply → Type 0
 LawfulView s (view.Opened n) = (n < VIEWS) × (is_open s n ≡ false) × ((k : ℕ) → k < n → is_open s k ≡ true)
@@ -125,17 +156,21 @@ LawfulView s view.TooManyViews = (k : ℕ) → k < VIEWS → is_open s k ≡ tru
 
 -- so many blocks of the parcel are new
 abbrev pub LawfulAdd : State → List (List ℕ × List ℕ) → ℕ → Type 0
-LawfulAdd s pairs new = map.len s.kept + new ≡ map.len (with_blocks s.kept pairs)
+LawfulAdd s pairs new = map.len s.kept + new ≡ rows_after s pairs
 
 abbrev pub LawfulPut : State → ℕ → List (List ℕ × List ℕ) → PutReply → Type 0
 LawfulPut s v pairs put.NoMemory = IsPassed s v pairs
-LawfulPut s v pairs (put.Stored new) = IsPassed s v pairs × LawfulAdd s pairs new
+LawfulPut s v pairs (put.TableFull rows) = IsPassed s v pairs × (rows ≡ rows_after s pairs) × (s.config.rows < rows)
+LawfulPut s v pairs (put.LogFull file need room) = IsAdmitted s v pairs × (file ≡ 0) × (new_pairs s.hot pairs ≢ []) × (need ≡ pairs_need (new_pairs s.hot pairs)) × (room < need)
+LawfulPut s v pairs put.DiskFault = IsAdmitted s v pairs
+LawfulPut s v pairs (put.Stored new) = IsAdmitted s v pairs × LawfulAdd s pairs new
 LawfulPut s v pairs refusal = IsPutRefusal s v pairs refusal
 
 abbrev pub LawfulGet : State → ℕ → List ℕ → GetReply → Type 0
 LawfulGet s v c get.BadView = is_open s v ≡ false
 LawfulGet s v c get.NotFound = (is_open s v ≡ true) × (fetched s.kept c ≡ None)
 LawfulGet s v c get.NoMemory = (is_open s v ≡ true) × (is_some (fetched s.kept c) ≡ true)
+LawfulGet s v c get.DiskFault = (is_open s v ≡ true) × (is_some (fetched s.kept c) ≡ true) × (identity_of c ≡ None)
 LawfulGet s v c (get.Found block) = (is_open s v ≡ true) × (fetched s.kept c ≡ Some block)
 
 -- the answer is lawful for this call at this state
@@ -158,3 +193,25 @@ abbrev pub After : State → Call → Answer → State
 After s call.OpenView (answer.View r) = after_view s r
 After s (call.Put v pairs) (answer.Put r) = after_put s pairs r
 After s _ _ = s
+
+-- the answer is want of memory
+abbrev pub is_no_memory : Answer → Bool
+is_no_memory (answer.Put put.NoMemory) = true
+is_no_memory (answer.Get get.NoMemory) = true
+is_no_memory _ = false
+
+-- the answer is a fault of the disk
+abbrev pub is_disk_fault : Answer → Bool
+is_disk_fault (answer.Put put.DiskFault) = true
+is_disk_fault (answer.Get get.DiskFault) = true
+is_disk_fault _ = false
+
+-- the answer is that too many CIDs would be kept
+abbrev pub is_table_full : Answer → Bool
+is_table_full (answer.Put (put.TableFull rows)) = true
+is_table_full _ = false
+
+-- the answer is that a log has no room
+abbrev pub is_log_full : Answer → Bool
+is_log_full (answer.Put (put.LogFull file need room)) = true
+is_log_full _ = false

@@ -1,14 +1,18 @@
 -- The state of the store, as its clients see it.
 --
--- kept is a finite map from CIDs to the bytes of their blocks; a CID is its list of bytes, and CIDs stand in the order of
--- these lists. hot holds the CIDs whose blocks are in the hot part of the store: all of them are kept. views holds the
--- numbers of the open views.
-use Rattle.std.specs.Prelude.{ℕ, List, refl}
+-- config holds the settings, fixed when the store is made. kept is a finite map from CIDs to the bytes of their blocks; a
+-- CID is its list of bytes, and CIDs stand in the order of these lists. hot holds the CIDs whose blocks are in the hot part
+-- of the store. head is none, or the height and the CIDs of the tipset that was last set. base is the edge of the last
+-- compaction, and ended tells how many have ended. views holds the numbers of the open views.
+--
+-- The type promises nothing of how these hang together. What does hold is a law of histories: begun with a new store, a
+-- history leaves a state in which no identity CID is kept, and exactly the kept CIDs are hot.
+use Rattle.std.specs.Prelude.{ℕ, List, Option, None}
 use Rattle.std.specs.Ordering.{nat_cmp}
 use Rattle.std.specs.Cmp.Lexicographic.{slice_cmp}
-use Rattle.std.specs.Coded.{Coded, code_by, coded×, coded_ℕ, coded_list}
 use Rattle.std.specs.FinMap as map
 use Rattle.std.specs.FinSet as set
+use Rattle.ss_records.specs.declared.record.Config.{Config as Settings}
 
 abbrev pub Kept : Type 0
 Kept = map.FinMap (slice_cmp nat_cmp) (List ℕ)
@@ -20,19 +24,18 @@ abbrev pub ViewSet : Type 0
 ViewSet = set.FinSet nat_cmp
 
 pub record State : Type 0 where
+  pub config : Settings
   pub kept : Kept
   pub hot : CidSet
+  pub head : Option (ℕ × List (List ℕ))
+  pub base : ℕ
+  pub ended : ℕ
   pub views : ViewSet
 
--- the state of a store in which nothing was done
-abbrev pub empty_state : State
-empty_state = record { kept = map.empty; hot = set.empty; views = set.empty }
+-- the state of a new store with these settings
+abbrev pub empty_state : Settings → State
+empty_state config = record { config = config; kept = map.empty; hot = set.empty; head = None; base = 0; ended = 0; views = set.empty }
 
--- a state is stored as the pairs of its fields
-abbrev pub state_code : Coded State
-state_code =
-    code_by (Kept × (CidSet × ViewSet))
-    (coded× (map.code (coded_list coded_ℕ) (coded_list coded_ℕ)) (coded× (set.code (coded_list coded_ℕ)) (set.code coded_ℕ)))
-    (λ s. (s.kept, (s.hot, s.views)))
-    (λ p. record { kept = p.0; hot = p.1.0; views = p.1.1 })
-    (λ _. refl)
+-- the state without its views: what lasts when the store is closed
+abbrev pub closed : State → State
+closed s = record s { views = set.empty }

@@ -85,6 +85,24 @@ pub enum PutReply {
     },
     /// The store ran out of memory.
     NoMemory,
+    /// More CIDs would be kept than the setting `rows` allows.
+    TableFull {
+        /// How many would be: those that are kept, and the new ones of the parcel.
+        rows: u64,
+    },
+    /// The log has no room for the record of the new blocks, and nothing of it was written.
+    LogFull {
+        /// The file of the log.
+        file: u8,
+        /// How many bytes of the log the record takes, its gate and its length among them.
+        need: u64,
+        /// For how many bytes there is room.
+        room: u64,
+    },
+    /// The disk's count of faults rose in this call. The store is as it was, and later calls see none of the new blocks.
+    /// Only where it stops before a later call has reached the disk without a fault are they in doubt: the store that is
+    /// opened then keeps all of them or none.
+    DiskFault,
     /// All blocks of the parcel are kept.
     Stored {
         /// How many of them were not kept before.
@@ -101,6 +119,8 @@ pub enum GetReply {
     NotFound,
     /// The store ran out of memory.
     NoMemory,
+    /// The disk's count of faults rose in this call: the block is kept, and could not be read. The store is as it was.
+    DiskFault,
     /// The block's bytes.
     Found(Bytes),
 }

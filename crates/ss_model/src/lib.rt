@@ -1,10 +1,10 @@
 //! The machine: what a client may call, what the store may answer, and which lists of calls and answers are lawful.
 //!
-//! A store is seen as one state: which blocks it keeps, which of them are hot, and which views are open. A call has
-//! one lawful answer at a state, but for want of memory, which may stand in its place; the state after an answer is a
-//! function of the state, the call and the answer. So a history, a list of entries, is legal or not, and stands for
-//! one run. The definitions are in `specs/`; this crate has the types that they speak of, and the laws that hold of
-//! every legal history.
+//! A store is seen as one state: its settings, which blocks it keeps, which of them are hot, the head, the base of the
+//! last compaction, and which views are open. A call has one lawful answer at a state, but for want of memory, a full
+//! log and a fault of the disk, which may stand in its place; the state after an answer is a function of the state, the
+//! call and the answer. So a history, a list of entries, is legal or not, and stands for one run. The definitions are
+//! in `specs/`; this crate has the types that they speak of, and the laws that hold of histories.
 #![tactic(auto)]
 
 mod call;

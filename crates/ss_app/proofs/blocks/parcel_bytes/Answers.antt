@@ -1,10 +1,25 @@
-use Rattle.std.proofs.Common.{ℕ, List, ◌-◌, ◌^◌}
-use Rattle.ss_app.specs.Store.{kept_of}
-use Rattle.ss_app.proofs.BlockList.{bytes_more}
+use Rattle.std.proofs.Common.{◌≡◌, ℕ, ◌-◌, ◌^◌, List, take, arith}
+use Rattle.std.proofs.lemmas.List.{take_all}
+use Rattle.ss_hot.specs.Half.{hot_blocks}
+use Rattle.ss_app.proofs.PutBytes.{bytes_more, least_more}
 use Rattle.ss_app.proofs.blocks.parcel_bytes.Goals as goal
+
+pub loop-i-init : goal.loop-i-init
+loop-i-init c = record { least = omega arith; all = λ records tells. omega arith }
 
 pub loop-i-preserved : goal.loop-i-preserved
 loop-i-preserved c =
-    let pair : List ℕ × List ℕ = (c.at-cid.result.0, c.at-cid.result.1.now) in
-    let sum = rw c.pair_bytes.ensures at c.saturating_add-bytes.ensures in
-    bytes_more (kept_of c.args.blocks.now) c.args.parcel.now c.loop-i.i pair c.loop-i.bytes c.saturating_add-bytes.result (2 ^ 64 - 1) c.at-cid.ensures c.loop-i.invariant sum
+    let pair : List ℕ × List ℕ = (c.at-cid.result.0, c.at-cid.result.1.now) in record {
+      least = least_more c.args.parcel.now c.loop-i.i pair c.loop-i.bytes c.pair_bytes.result c.saturating_add-bytes.result (2 ^ 64 - 1) c.at-cid.ensures c.loop-i.invariant.least c.pair_bytes.ensures.least c.saturating_add-bytes.ensures;
+      all = λ records tells. bytes_more (hot_blocks records) c.args.parcel.now c.loop-i.i pair c.loop-i.bytes c.pair_bytes.result c.saturating_add-bytes.result (2 ^ 64 - 1) c.at-cid.ensures (c.loop-i.invariant.all records tells) (c.pair_bytes.ensures.all records tells) c.saturating_add-bytes.ensures;
+    }
+
+pub returns-clause-least : goal.returns-clause-least
+returns-clause-least c =
+    let whole : take c.loop-i.i c.args.parcel.now ≡ c.args.parcel.now = take_all c.loop-i.i c.args.parcel.now (omega arith) in
+    rw whole at c.loop-i.invariant.least
+
+pub returns-clause-all : goal.returns-clause-all
+returns-clause-all c = λ records tells.
+    let whole : take c.loop-i.i c.args.parcel.now ≡ c.args.parcel.now = take_all c.loop-i.i c.args.parcel.now (omega arith) in
+    rw whole at (c.loop-i.invariant.all records tells)

@@ -1,0 +1,104 @@
+-- The state that a disk stands for when its store is opened, and when it is made.
+use Rattle.std.proofs.Common.{◌≡◌, ℕ, ◌≤◌, Bool, true, false, List, [], ◌∷◌, length, refl, sym, ap, ◌∙◌, arith}
+use Rattle.std.specs.Prelude.{MatchBool, is_some}
+use Rattle.std.specs.Ordering.{nat_cmp}
+use Rattle.std.specs.Cmp.Lexicographic.{slice_cmp, nat_list_cmp_total}
+use Rattle.std.specs.FinMap as finite_map
+use Rattle.std.specs.FinMap.{contains_key-keys, get-empty}
+use Rattle.std.specs.FinSet as finite_set
+use Rattle.std.specs.FinSet.{contains-from_list, contains-empty}
+use Rattle.ss_disk.specs.declared.disk.Disk.{Ghosts}
+use Rattle.ss_gatelog.specs.Log.{spelled}
+use Rattle.ss_gatelog.specs.GateLog.{Log, Stands, IsSure, IsDoubted}
+use Rattle.ss_records.specs.declared.record.Config.{Config as Settings}
+use Rattle.ss_records.specs.declared.record.Record.{Record}
+use Rattle.ss_records.specs.declared.record.Record.TheVariants.{Generation, Config}
+use Rattle.ss_hot.specs.Half.{bodies, hot_blocks, head_of, base_of}
+use Rattle.ss_hot.specs.File.{IsHalf}
+use Rattle.ss_hot.specs.Store.{Hot, Keeps}
+use Rattle.ss_model.specs.State.{State, empty_state}
+use Rattle.ss_hot.specs.declared.fault.StoreFault.{StoreFault}
+use Rattle.ss_hot.specs.declared.fault.StoreFault.TheVariants as store
+use Rattle.ss_app.specs.declared.store.OpenFault.TheVariants as opening
+use Rattle.ss_app.specs.Opening.{open_fault_of}
+use Rattle.ss_app.specs.Stands.{IsLeftBy, StandsFor, Serves}
+
+-- the state that records leave, in which no view is open
+abbrev pub state_of : Settings → List Record → State
+state_of settings records = record {
+  config = settings;
+  kept = hot_blocks records;
+  hot = finite_set.from_list (finite_map.keys (hot_blocks records));
+  head = head_of records;
+  base = (base_of records).0;
+  ended = (base_of records).1;
+  views = finite_set.empty;
+}
+
+left_so : (settings : Settings) (records : List Record) → IsLeftBy settings records (state_of settings records)
+left_so settings records = record {
+  config = refl;
+  kept = refl;
+  hot = λ c. contains-from_list nat_list_cmp_total (finite_map.keys (hot_blocks records)) c ∙ sym (contains_key-keys (hot_blocks records) c);
+  head = refl;
+  base = refl;
+}
+
+-- a log ends behind its records
+pub end_is : {D : Type 0} (disk : Ghosts D) (now : D) (log : Log) (front more : List (List ℕ)) → Stands disk now log front more → log.end ≡ length (spelled front)
+end_is disk now log front more stands = at log.unsure stands
+  where
+    at : (b : Bool) → MatchBool b (IsDoubted disk now log front more) (IsSure disk now log front) → log.end ≡ length (spelled front)
+    at true doubt = doubt.end
+    at false sure = sure.end
+
+-- a store that was opened serves what its file stands for
+pub opened : {D : Type 0} (disk : Ghosts D) (now : D) (file : List ℕ) (hot : Hot) (records : List Record) → IsHalf file hot.settings records → finite_map.len (hot_blocks records) ≤ hot.settings.rows → Keeps disk now hot records [] → (s : State) × StandsFor file hot.log.end s × Serves disk now hot 0 s
+opened disk now file hot records half rows keeps = (
+  state_of hot.settings records,
+  record {
+    settings = hot.settings;
+    records = records;
+    half = half;
+    rows = rows;
+    state = left_so hot.settings records;
+    closed = refl;
+    ends = end_is disk now hot.log (bodies records) (bodies []) keeps.stands;
+  },
+  record { records = records; others = []; keeps = keeps; state = left_so hot.settings records; views_are = refl },
+)
+
+-- the records of a new store leave the state in which nothing is kept
+none_left : (settings : Settings) → IsLeftBy settings (Generation 1 ∷ Config settings ∷ []) (empty_state settings)
+none_left settings = record {
+  config = refl;
+  kept = refl;
+  hot = λ c. contains-empty (slice_cmp nat_cmp) c ∙ sym (ap is_some (get-empty (slice_cmp nat_cmp) c));
+  head = refl;
+  base = refl;
+}
+
+-- the file of a new store stands for that state
+pub made : (file : List ℕ) (settings : Settings) → IsHalf file settings (Generation 1 ∷ Config settings ∷ []) → (end : ℕ) × StandsFor file end (empty_state settings)
+made file settings half = (
+  length (spelled (bodies (Generation 1 ∷ Config settings ∷ []))),
+  record {
+    settings = settings;
+    records = Generation 1 ∷ Config settings ∷ [];
+    half = half;
+    rows = omega (arith, none_are);
+    state = none_left settings;
+    closed = refl;
+    ends = refl;
+  },
+)
+  where
+    none_are : finite_map.len (hot_blocks (Generation 1 ∷ Config settings ∷ [])) ≡ 0
+    none_are = finite_map.len-empty (slice_cmp nat_cmp) (List ℕ)
+
+-- a store is told to be damaged where its hot store is
+pub damaged_so : (fault : StoreFault) (file at : ℕ) → open_fault_of fault ≡ opening.Damaged file at → fault ≡ store.Damaged file at
+damaged_so store.NoMemory file at is = absurd cc
+damaged_so store.DiskFault file at is = absurd cc
+damaged_so (store.LogFull f need room) file at is = absurd cc
+damaged_so (store.Damaged f a) file at is = cc

@@ -1,0 +1,230 @@
+//! The words of the command line.
+
+ghost use Rattle.std.specs.Prelude.{◌≡◌, ◌≤◌, Ok, IfOk, IfSome, map, string_bytes};
+ghost use Rattle.ss_records.specs.declared.record.Config.{Config as Settled};
+ghost use Rattle.ss_records.specs.declared.record.Mode.TheVariants.{Discard};
+ghost use Rattle.ss_records.specs.Record.{SettingsFit};
+ghost use Rattle.ss_app.specs.declared.words.Command.TheVariants.{Init};
+ghost use Rattle.ss_app.specs.Words.{CommandFits, command_of, words_of, alone, init_of, settings_from, no_settings, mode_of, number_within, once};
+
+use crate::script::is_number;
+use ss_records::{Config, Mode};
+
+/// The most epochs that a setting may count.
+const MOST_EPOCHS: u64 = 1 << 62;
+
+/// The most bytes that a log file may have.
+const MOST_BYTES: u64 = 1 << 40;
+
+/// What the words of the command line ask for.
+#[derive(Clone, Copy, Debug, PartialEq, Eq)]
+pub(crate) enum Command {
+    /// To make a store of these settings.
+    Init(Config),
+    /// To make the calls of a script.
+    Trace,
+    /// To print the commands.
+    Help,
+    /// To print the version.
+    Version,
+}
+
+/// The command of these words, or the place of the first word, counted from 0, that is not of the form; the number of words
+/// where one is missing.
+pub(crate) fn command_of(words: &[String]) -> Result<Command, usize>
+    ensures command { result ≡ command_of (map string_bytes words.now) }
+    ensures fits { IfOk result CommandFits }
+{
+    let Some((command, rest)) = words.split_first() else {
+        return Err(0);
+    };
+    match command.as_str() {
+        "init" => init(rest),
+        "trace" => alone(Command::Trace, 1, rest),
+        "--help" => alone(Command::Help, 0, rest),
+        "--version" => alone(Command::Version, 0, rest),
+        _ => Err(0),
+    }
+}
+
+/// A law: the words that ask for a store are read as its settings. There is nothing to call.
+pub(crate) fn each_store_can_be_asked_for()
+    ensures { (c : Settled) → SettingsFit c → c.mode ≡ Discard → command_of (words_of c) ≡ Ok (Init c) }
+{}
+
+// A command that takes no words, or the place at fault where there are some.
+fn alone(command: Command, place: usize, words: &[String]) -> Result<Command, usize>
+    ensures { result ≡ alone command place (map string_bytes words.now) }
+{
+    if words.is_empty() {
+        Ok(command)
+    } else {
+        Err(place)
+    }
+}
+
+// The command `init` with these words behind it.
+fn init(words: &[String]) -> Result<Command, usize>
+    ensures { result ≡ init_of (map string_bytes words.now) }
+{
+    match read_settings(words)?.config() {
+        Some(config) => Ok(Command::Init(config)),
+        None => Err(words.len() + 1),
+    }
+}
+
+// The settings of the words behind `init`, or the place of the first that is not of the form.
+fn read_settings(words: &[String]) -> Result<Settings, usize>
+    ensures { result ≡ settings_from 1 no_settings (map string_bytes words.now) }
+{
+    let mut settings = Settings::NONE;
+    for (index, word) in words.iter().enumerate() {
+        let Some(more) = settings.with_word(word.as_str()) else {
+            return Err(index + 1);
+        };
+        settings = more;
+    }
+    Ok(settings)
+}
+
+// A key of `init`.
+#[derive(Clone, Copy, Debug, PartialEq, Eq)]
+enum Key {
+    Mode,
+    Depth,
+    Threshold,
+    Batch,
+    Rows,
+    Limit,
+}
+
+impl Key {
+    ghost use Rattle.std.specs.Prelude.{◌≡◌};
+    ghost use Rattle.ss_app.specs.Words.{key_of};
+
+    // The key of this name.
+    fn of(name: &str) -> Option<Key>
+        ensures { result ≡ key_of name.now }
+    {
+        match name {
+            "mode" => Some(Key::Mode),
+            "depth" => Some(Key::Depth),
+            "threshold" => Some(Key::Threshold),
+            "batch" => Some(Key::Batch),
+            "rows" => Some(Key::Rows),
+            "limit" => Some(Key::Limit),
+            _ => None,
+        }
+    }
+}
+
+// What the words of `init` set.
+#[derive(Clone, Copy, Debug, PartialEq, Eq)]
+struct Settings {
+    mode: Option<Mode>,
+    depth: Option<u64>,
+    threshold: Option<u64>,
+    batch: Option<u32>,
+    rows: Option<u32>,
+    limit: Option<u64>,
+}
+
+impl Settings {
+    ghost use Rattle.std.specs.Prelude.{◌≡◌};
+    ghost use Rattle.ss_app.specs.Words.{with_word, with_value, config_of};
+
+    const NONE: Settings = Settings {
+        mode: None,
+        depth: None,
+        threshold: None,
+        batch: None,
+        rows: None,
+        limit: None,
+    };
+
+    // The settings with one word more, where it is of the form.
+    #[tactic(auto, unfolding(crate::specs::Words::with_word))]
+    fn with_word(self, word: &str) -> Option<Settings>
+        ensures { result ≡ with_word self word.now }
+    {
+        let (name, value) = word.split_once('=')?;
+        self.with_value(Key::of(name)?, value)
+    }
+
+    // The settings with the value of a key that has none yet, where it is of the form.
+    #[tactic(auto, unfolding(crate::specs::Words::with_value))]
+    fn with_value(mut self, key: Key, value: &str) -> Option<Settings>
+        ensures { result ≡ with_value self key value.now }
+    {
+        match key {
+            Key::Mode => self.mode = Some(once(self.mode, read_mode(value))?),
+            Key::Depth => self.depth = Some(once(self.depth, decimal(value, 0, MOST_EPOCHS))?),
+            Key::Threshold => {
+                self.threshold = Some(once(self.threshold, decimal(value, 1, MOST_EPOCHS))?)
+            }
+            Key::Batch => self.batch = Some(once(self.batch, small_decimal(value, 1, 4096))?),
+            Key::Rows => self.rows = Some(once(self.rows, small_decimal(value, 1, u32::MAX))?),
+            Key::Limit => self.limit = Some(once(self.limit, decimal(value, 65536, MOST_BYTES))?),
+        }
+        Some(self)
+    }
+
+    // The settings of a store, where a mode is set.
+    fn config(self) -> Option<Config>
+        ensures { result ≡ config_of self }
+    {
+        Some(Config {
+            mode: self.mode?,
+            depth: self.depth.unwrap_or(3600),
+            threshold: self.threshold.unwrap_or(4500),
+            batch: self.batch.unwrap_or(256),
+            rows: self.rows.unwrap_or(u32::MAX),
+            limit: self.limit.unwrap_or(MOST_BYTES),
+        })
+    }
+}
+
+// A value of a key that had none before.
+fn once<T: Copy>(before: Option<T>, value: Option<T>) -> Option<T>
+    ensures { result ≡ once before value }
+{
+    match before {
+        None => value,
+        Some(_) => None,
+    }
+}
+
+// The mode of this name, of those that a store can be made in.
+fn read_mode(value: &str) -> Option<Mode>
+    ensures { result ≡ mode_of value.now }
+{
+    match value {
+        "discard" => Some(Mode::Discard),
+        _ => None,
+    }
+}
+
+// A decimal number without leading zeros that is within its bounds.
+#[tactic(auto, unfolding(crate::specs::Words::number_within))]
+fn decimal(value: &str, least: u64, most: u64) -> Option<u64>
+    ensures value { result ≡ number_within least most value.now }
+    ensures most { IfSome result (λ n. n ≤ most) }
+{
+    if !is_number(value.as_bytes()) {
+        return None;
+    }
+    let number = value.parse().ok()?;
+    if least <= number && number <= most {
+        Some(number)
+    } else {
+        None
+    }
+}
+
+// The same of 32 bits.
+fn small_decimal(value: &str, least: u32, most: u32) -> Option<u32>
+    ensures { result ≡ number_within least most value.now }
+{
+    let number = decimal(value, u64::from(least), u64::from(most))?;
+    Some(number as u32)
+}

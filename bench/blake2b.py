@@ -7,7 +7,7 @@ import os
 import random
 import sys
 
-from timing import best, put, put_script, shown
+from timing import best, new_store, put_script, shown, trace
 
 LENGTH = 7_000_000
 MOST = 1.25
@@ -22,12 +22,13 @@ def main(folder):
     for path, content in ((block, data), (nothing, b"")):
         with open(path, "wb") as file:
             file.write(content)
+    store = new_store(os.path.join(folder, "blake2b"))
     hashed, unhashed = os.path.join(folder, "hashed"), os.path.join(folder, "unhashed")
-    put_script(hashed, WRONG_DIGEST, data, "mismatch 0")
-    put_script(unhashed, UNKNOWN_HASH, data, "unknown-hash 0")
+    put_script(hashed, [(WRONG_DIGEST, data)], store, "mismatch 0")
+    put_script(unhashed, [(UNKNOWN_HASH, data)], store, "unknown-hash 0")
 
     b2sum = ["b2sum", "-l", "256"]
-    times = best([put(hashed), put(unhashed), (b2sum, block), (b2sum, nothing)])
+    times = best([trace(hashed, store), trace(unhashed, store), (b2sum, block, store), (b2sum, nothing, store)])
     ours, theirs = times[0] - times[1], times[2] - times[3]
     print(f"BLAKE2b of {LENGTH:,} bytes")
     print(f"  put, hashed {shown(times[0])}; not hashed {shown(times[1])}; the hash {shown(ours)}")

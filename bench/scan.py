@@ -1,30 +1,32 @@
 """The scan of a block for its links, against the length of the block.
 
 The block is nested arrays, one in the other to the last byte: each byte is a head of its own. It is put under a
-dag-cbor CID and scanned, and under a raw CID and not scanned, both with its sha2-256 digest. What lies between is the
-scan.
+dag-cbor CID and scanned, and under a raw CID and not scanned, both with its sha2-256 digest. Behind it in the put
+stands a pair under a wrong digest, so that nothing is kept. What lies between is the scan.
 """
 import hashlib
 import os
 import sys
 
-from timing import best, put, put_script, shown
+from timing import best, new_store, put_script, shown, trace
 
 LENGTHS = (1_000_000, 8_000_000)
 
 DAG_CBOR = bytes.fromhex("01711220")
 RAW = bytes.fromhex("01551220")
+WRONG = (RAW + bytes(32), b"")
 
 
 def main(folder):
+    store = new_store(os.path.join(folder, "scan"))
     commands = []
     for length in LENGTHS:
         data = b"\x81" * (length - 1) + b"\x80"
         digest = hashlib.sha256(data).digest()
         for name, codec in (("scanned", DAG_CBOR), ("unscanned", RAW)):
             path = os.path.join(folder, f"{name}-{length}")
-            put_script(path, codec + digest, data, "stored 1")
-            commands.append(put(path))
+            put_script(path, [(codec + digest, data), WRONG], store, "mismatch 1")
+            commands.append(trace(path, store))
 
     times = best(commands)
     scans = []

@@ -7,49 +7,62 @@ import time
 RUNS = int(os.environ.get("RUNS", "20"))
 
 TOP = os.path.dirname(os.path.dirname(os.path.abspath(__file__)))
-STORE = [os.path.join(TOP, "splitstore"), "trace"]
+LAUNCHER = os.path.join(TOP, "splitstore")
 PROGRAM = os.path.join(TOP, "crates", "splitstore", "out", "splitstore")
 
 
-def run(words, source):
-    """What the command prints, given a file as its input."""
+def run(words, source, folder):
+    """What the command prints in a folder, given a file as its input."""
     with open(source, "rb") as file:
-        done = subprocess.run(words, stdin=file, stdout=subprocess.PIPE, check=False)
+        done = subprocess.run(words, stdin=file, stdout=subprocess.PIPE, cwd=folder, check=False)
     if done.returncode != 0:
         sys.exit(f"{words[0]} ended with status {done.returncode}: {done.stdout[:200]!r}")
     return done.stdout
 
 
-def seconds(words, source):
+def seconds(words, source, folder):
     """How long one run of the command takes."""
     with open(source, "rb") as file:
         start = time.perf_counter()
-        subprocess.run(words, stdin=file, stdout=subprocess.DEVNULL, check=True)
+        subprocess.run(words, stdin=file, stdout=subprocess.DEVNULL, cwd=folder, check=True)
         return time.perf_counter() - start
 
 
 def best(commands):
-    """The best of RUNS runs of each command, a pair of its words and the file that it reads."""
+    """The best of RUNS runs of each command: its words, the file that it reads, and the folder that it runs in."""
     times = [float("inf")] * len(commands)
     for _ in range(RUNS):
-        for place, (words, source) in enumerate(commands):
-            times[place] = min(times[place], seconds(words, source))
+        for place, command in enumerate(commands):
+            times[place] = min(times[place], seconds(*command))
     return times
 
 
-def put_script(path, cid, data, answer):
-    """Writes a script that puts one block, and sees to it that the store gives this answer to the put."""
-    with open(path, "w", encoding="ascii") as file:
-        file.write(f"0 open\n0 put 0 {cid.hex()} {data.hex()}\n")
-    wanted = f"1 0 1 open = opened 0\n2 0 2 put 0 = {answer}\n".encode("ascii")
+def new_store(folder):
+    """Makes a folder with a store in which nothing is kept."""
+    os.mkdir(folder)
     # the launcher builds the program where it is not built yet
-    if run(STORE, path) != wanted:
+    run([LAUNCHER, "init", "mode=discard"], os.devnull, folder)
+    return folder
+
+
+def put_line(pairs):
+    """The line that puts these pairs of a CID and data."""
+    fields = [f"{cid.hex()} {data.hex() or '-'}" for cid, data in pairs]
+    return " ".join(["0 put 0", *fields]) + "\n"
+
+
+def put_script(path, pairs, store, answer):
+    """Writes a script that puts these pairs at once, and sees to it that the store gives this answer to the put."""
+    with open(path, "w", encoding="ascii") as file:
+        file.write("0 open\n" + put_line(pairs))
+    wanted = f"1 0 1 open = opened 0\n2 0 2 put 0 = {answer}\n".encode("ascii")
+    if run([PROGRAM, "trace"], path, store) != wanted:
         sys.exit(f"{path}: the store does not answer {answer}")
 
 
-def put(path):
-    """The command that puts the block of a script; without the launcher, whose time would count."""
-    return ([PROGRAM, "trace"], path)
+def trace(path, store):
+    """The command that runs a script on a store; without the launcher, whose time would count."""
+    return ([PROGRAM, "trace"], path, store)
 
 
 def shown(time_of):

@@ -1,8 +1,8 @@
 """Puts, gets, opening and memory of the store, against other stores on the same blocks.
 
-The program reads a script, so its times are differences of runs: each subtracts a run of the same script that leaves
-out the work in question. The other stores time themselves, in `peers/`, without their opening and closing. All take
-turns. A peer that cannot be compiled, for want of its library, is left out.
+The program reads a script, so its times are differences of runs. Reading and judging a script is told by the same script
+with a bad last line, on which the program ends before it opens the store. The other stores time themselves, in `peers/`,
+without their opening and closing. All take turns. A peer that cannot be compiled, for want of its library, is left out.
 """
 import hashlib
 import os
@@ -10,30 +10,30 @@ import random
 import shutil
 import subprocess
 import sys
+import tempfile
 
 from timing import PROGRAM, RUNS, best, new_store, put_line, run, seconds, shown, trace
 
 HERE = os.path.dirname(os.path.abspath(__file__))
 
-PUTS = {1: 200, 256: 4_096}
-KEPT, SMALL = 100_000, 300_000
-LENGTH, SMALL_LENGTH = 500, 8
+PUT, KEPT = 15_000, (15_000, 100_000)
+BATCHES = (1, 256)
+LENGTHS = (8, 792)
 
 MOST_OVER_PLAIN, MOST_OVER_LMDB = 1.3, 2
 LEAST_OPENED, MOST_MEMORY = 300_000, 160
 
 RAW = bytes.fromhex("01551220")
-ABSENT = bytes.fromhex("015513")
-IDENTITY = bytes.fromhex("015500")
-SHORT, LONG = 2, 66
+BAD, BAD_STATUS = "bad\n", 9
+# where a sync costs nothing: stores are filled there before they are measured
+MEMORY = "/dev/shm" if os.path.isdir("/dev/shm") else None
 
 COMPILE = {
     "plain": ["g++", "plain.cc"],
     "LMDB": ["g++", "lmdb.cc", "-llmdb"],
     "LevelDB": ["g++", "leveldb.cc", "-lleveldb"],
     "RocksDB": ["g++", "rocksdb.cc", "-lrocksdb"],
-    "SQLite, WAL": ["g++", "sqlite.cc", "-lsqlite3"],
-    "SQLite, rollback": ["g++", "-DROLLBACK", "sqlite.cc", "-lsqlite3"],
+    "SQLite": ["g++", "sqlite.cc", "-lsqlite3"],
     "Badger": ["go", "badger.go"],
 }
 FLAGS = {"g++": ["-O2", "-std=c++17"], "go": ["build"]}
@@ -60,10 +60,10 @@ def compiled(folder):
     return peers
 
 
-def made(count, length):
+def made(count):
     """Blocks of random bytes, each with its CID."""
-    source = random.Random(length)
-    datas = [source.randbytes(length) for _ in range(count)]
+    source = random.Random(count)
+    datas = [source.randbytes(source.randint(*LENGTHS)) for _ in range(count)]
     return [(RAW + hashlib.sha256(data).digest(), data) for data in datas]
 
 
@@ -81,20 +81,55 @@ def script(path, lines):
     return path
 
 
-def see(path, store, answer):
+def answers(path, store):
+    """What the store answers to the calls of a script behind its `open`."""
+    return [line.split(b" = ")[1] for line in run([PROGRAM, "trace"], path, store).splitlines()[1:]]
+
+
+def see(path, store, wanted):
     """Sees to it that all calls of a script but its `open` are answered so."""
-    for line in run([PROGRAM, "trace"], path, store).splitlines()[1:]:
-        if f" = {answer}".encode("ascii") not in line:
-            sys.exit(f"{path}: the store answers {line[:80]!r}, and not {answer}")
+    if answers(path, store) != wanted:
+        sys.exit(f"{path}: the store does not answer {wanted[0][:80]!r} and so on")
 
 
 def in_batches(blocks, batch):
     return [blocks[at:at + batch] for at in range(0, len(blocks), batch)]
 
 
-def own_time(program, what, folder, *words):
+def puts_script(path, blocks, batch):
+    """The script of the puts, and what they are answered on a store with none of the blocks."""
+    batches = in_batches(blocks, batch)
+    return script(path, map(put_line, batches)), [b"stored %d" % len(pairs) for pairs in batches]
+
+
+def four(path, store):
+    """The commands whose times tell what the calls of a script take: see `own`."""
+    with open(path, encoding="ascii") as file:
+        lines = file.read()
+    for more, text in (("-judged", lines + BAD), ("-open", "0 open\n"), ("-start", BAD)):
+        with open(path + more, "w", encoding="ascii") as file:
+            file.write(text)
+    return [trace(path, store), trace(path + "-judged", store, BAD_STATUS),
+            trace(path + "-open", store), trace(path + "-start", store, BAD_STATUS)]
+
+
+def own(times):
+    """The whole run, less reading and judging the script, less opening: a run of `0 open` alone, less starting for it."""
+    whole, judged, opened, started = times
+    return whole - judged - (opened - started)
+
+
+def peer(words, output=subprocess.DEVNULL):
+    """A run of a peer."""
+    done = subprocess.run(words, stdout=output, stderr=subprocess.PIPE, check=False)
+    if done.returncode != 0:
+        sys.exit(f"{words} ended with status {done.returncode}: {done.stderr!r}")
+    return done
+
+
+def told(program, what, folder, *words):
     """The seconds that a peer tells."""
-    return float(run([program, what, folder, *words], os.devnull, HERE))
+    return float(peer([program, what, folder, *words]).stderr)
 
 
 def made_folder(path):
@@ -102,20 +137,28 @@ def made_folder(path):
     return path
 
 
-def put_times(folder, peers, blocks, batch):
-    """The best time of each to put the blocks; of the store the runs that keep and that refuse, with what is between."""
+def tell(what, times, others, wanted):
+    """Prints the store's own time and its ratio to the time of each other; `wanted` has what is wanted of some ratios."""
+    ours = own(times)
+    names = ("whole", "judged", "open", "start")
+    print(f"{what}: {shown(ours)} (" + ", ".join(f"{name} {shown(time)}" for name, time in zip(names, times)) + ")")
+    for name, time in others.items():
+        most = f" (wanted: at most {wanted[name]})" if name in wanted else ""
+        print(f"  {name} {shown(time)}; ratio {ours / time:.2f}{most}", flush=True)
+
+
+def puts(folder, peers, blocks, batch):
     file = write_blocks(os.path.join(folder, "blocks"), blocks)
-    kept = in_batches(blocks, batch)
-    # all blocks of a put are hashed, and the last one is found to be another
-    refused = [[*pairs[:-1], (RAW + bytes(32), pairs[-1][1])] for pairs in kept]
-    puts = script(os.path.join(folder, "puts"), map(put_line, kept))
+    path, wanted = puts_script(os.path.join(folder, f"puts-{batch}"), blocks, batch)
+    # all blocks of a put are hashed, and the last one is found to be another: the put is refused, and nothing is written
+    refused = [[*pairs[:-1], (RAW + bytes(32), pairs[-1][1])] for pairs in in_batches(blocks, batch)]
     refusals = script(os.path.join(folder, "refusals"), map(put_line, refused))
-
     store = new_store(os.path.join(folder, f"seen-{batch}"))
-    see(refusals, store, "mismatch")
-    see(puts, store, "stored")
+    see(refusals, store, [b"mismatch %d" % (len(pairs) - 1) for pairs in refused])
+    see(path, store, wanted)
 
-    times = dict.fromkeys(["kept", "refused", *peers], float("inf"))
+    times = [float("inf")] * 5
+    others = dict.fromkeys(peers, float("inf"))
     takers = ["store", *peers]
     for turn in range(RUNS):
         # each begins a turn once, and no file is removed meanwhile: a disk answers slowly to who comes after that
@@ -123,115 +166,81 @@ def put_times(folder, peers, blocks, batch):
             where = os.path.join(folder, f"put-{batch}-{turn}-{name}")
             if name == "store":
                 store = new_store(where)
-                times["refused"] = min(times["refused"], seconds(*trace(refusals, store)))
-                times["kept"] = min(times["kept"], seconds(*trace(puts, store)))
+                whole, *rest = four(path, store)
+                for place, command in [*enumerate([*rest, trace(refusals, store)], 1), (0, whole)]:
+                    times[place] = min(times[place], seconds(*command))
             else:
-                told = own_time(peers[name], "put", made_folder(where), file, str(batch))
-                times[name] = min(times[name], told)
-    return times
-
-
-def puts(folder, peers):
-    for batch, count in PUTS.items():
-        times = put_times(folder, peers, made(count, LENGTH), batch)
-        ours = times["kept"] - times["refused"]
-        print(f"puts of {count:,} blocks of {LENGTH} bytes, {batch} at a time, each put synced")
-        print(f"  kept {shown(times['kept'])}; refused {shown(times['refused'])}; the puts {shown(ours)}")
-        for name in peers:
-            wanted = f" (wanted: at most {MOST_OVER_PLAIN})" if name == "plain" else ""
-            print(f"  {name} {shown(times[name])}; ratio {ours / times[name]:.2f}{wanted}")
+                others[name] = min(others[name], told(peers[name], "put", made_folder(where), file, str(batch)))
+    *times, hashed = times
+    tell(f"{len(blocks):,} blocks put, {batch} at a time", times, others, {"plain": MOST_OVER_PLAIN})
+    print(f"  of the store's time {shown(own([hashed, *times[1:]]))} is hashing: the puts refused", flush=True)
 
 
 def filled(folder, peers, blocks):
-    """A store of these blocks, made by several runs, and the folder of each peer with the same."""
-    store = new_store(os.path.join(folder, f"store-{len(blocks)}"))
-    path = os.path.join(folder, "part")
-    for part in in_batches(blocks, 12_800):
-        see(script(path, map(put_line, in_batches(part, 256))), store, "stored")
+    """A store of these blocks, one a record, made by several runs, and the folder of each peer with the same."""
+    with tempfile.TemporaryDirectory(dir=MEMORY) as memory:
+        store = new_store(os.path.join(memory, "store"))
+        for part in in_batches(blocks, PUT):
+            path, wanted = puts_script(os.path.join(folder, "part"), part, 1)
+            see(path, store, wanted)
+        store = shutil.copytree(store, os.path.join(folder, f"store-{len(blocks)}"))
     file = write_blocks(os.path.join(folder, "blocks"), blocks)
     stores = {"plain": store}
     for name, program in peers.items():
         if name != "plain":
             stores[name] = made_folder(f"{store}-{name}")
-            own_time(program, "put", stores[name], file, "256")
+            told(program, "put", stores[name], file, "256")
     return store, stores
 
 
-def gets(folder, peers, blocks, store, stores, empty):
-    """Gets in random order. What is left when all but the look-up and the read is taken out:
-
-    the gets on the full store, less opening it; less the same lines on an empty store, which finds nothing; less printing
-    the bytes, which is told by gets of identity CIDs of two lengths, less as many under a hash that no block has.
-    """
+def gets(folder, peers, blocks, store, stores):
     order = random.Random(2).sample(blocks, len(blocks))
-    nothing = script(os.path.join(folder, "nothing"), [])
-    lines = script(os.path.join(folder, "gets"), [f"0 get 0 {cid.hex()}\n" for cid, _ in order])
-    see(lines, store, "found")
-    see(lines, empty, "not-found")
-    commands = [trace(lines, store), trace(nothing, store), trace(lines, empty), trace(nothing, empty)]
-    for length in (SHORT, LONG):
-        for head in (IDENTITY, ABSENT):
-            cid = head + bytes([length]) + bytes(length)
-            path = os.path.join(folder, f"printed-{head.hex()}-{length}")
-            script(path, [f"0 get 0 {cid.hex()}\n"] * len(blocks))
-            see(path, empty, "found" if head == IDENTITY else "not-found")
-            commands.append(trace(path, empty))
+    path = script(os.path.join(folder, "gets"), [f"0 get 0 {cid.hex()}\n" for cid, _ in order])
+    found = [b"found " + data.hex().encode("ascii") for _, data in order]
+    see(path, store, found)
     file = write_blocks(os.path.join(folder, "order"), order)
+    for name, program in peers.items():
+        if peer([program, "get", stores[name], file], subprocess.PIPE).stdout.splitlines() != found:
+            sys.exit(f"{name} prints other lines")
 
-    times = [float("inf")] * len(commands)
-    told = dict.fromkeys(peers, float("inf"))
+    times = [float("inf")] * 4
+    others = dict.fromkeys(peers, float("inf"))
+    commands = four(path, store)
     for _ in range(RUNS):
         for place, command in enumerate(commands):
             times[place] = min(times[place], seconds(*command))
         for name, program in peers.items():
-            told[name] = min(told[name], own_time(program, "get", stores[name], file))
-    full, opening, missed, started, short, short_absent, long, long_absent = times
-    printing = ((long - long_absent) - (short - short_absent)) * LENGTH / (LONG - SHORT)
-    ours = (full - opening) - (missed - started) - printing
-    print(f"gets of {len(blocks):,} blocks of {LENGTH} bytes in random order")
-    print(f"  found {shown(full - opening)}; not found {shown(missed - started)}; printing {shown(printing)}; "
-          f"the gets {shown(ours)}, {ours * 1e6 / len(blocks):.2f} µs each")
-    for name in peers:
-        wanted = f" (wanted: at most {MOST_OVER_LMDB})" if name == "LMDB" else ""
-        print(f"  {name} {shown(told[name])}; ratio {ours / told[name]:.2f}{wanted}")
+            others[name] = min(others[name], told(program, "get", stores[name], file))
+    tell(f"{len(blocks):,} gets in random order", times, others, {"LMDB": MOST_OVER_LMDB})
 
 
-def memory(store, folder):
+def memory_of(store, folder):
     """The most memory that opening a store takes, in bytes."""
-    told = os.path.join(folder, "memory")
-    run(["/usr/bin/time", "-f", "%M", "-o", told, PROGRAM, "trace"], os.devnull, store)
-    with open(told, encoding="ascii") as file:
+    path = os.path.join(folder, "memory")
+    run(["/usr/bin/time", "-f", "%M", "-o", path, PROGRAM, "trace"], os.devnull, store)
+    with open(path, encoding="ascii") as file:
         return 1024 * int(file.read())
 
 
-def opening(folder, peers, count, length, store, stores, empty):
-    times = [float("inf")] * 2
-    told = dict.fromkeys(peers, float("inf"))
-    for _ in range(RUNS):
-        for place, where in enumerate((store, empty)):
-            times[place] = min(times[place], seconds(*trace(os.devnull, where)))
-        for name, program in peers.items():
-            told[name] = min(told[name], own_time(program, "open", stores[name]))
-    ours = times[0] - times[1]
-    print(f"opening a store of {count:,} blocks of {length} bytes")
-    print(f"  full {shown(times[0])}; empty {shown(times[1])}; {count / ours:,.0f} blocks a second "
-          f"(wanted: at least {LEAST_OPENED:,})")
-    for name in peers:
-        print(f"  {name} {shown(told[name])}; ratio {ours / told[name]:.2f}")
-    each = (memory(store, folder) - memory(empty, folder)) / count
-    print(f"  memory {each:.0f} bytes a block (wanted: at most {MOST_MEMORY})")
+def opening(folder, count, store, empty):
+    full, none = best([trace(os.devnull, store), trace(os.devnull, empty)])
+    print(f"{count:,} blocks opened: {shown(full - none)} (full {shown(full)}, empty {shown(none)}), "
+          f"{count / (full - none):,.0f} blocks a second (wanted: at least {LEAST_OPENED:,})")
+    each = (memory_of(store, folder) - memory_of(empty, folder)) / count
+    wanted = f" (wanted: at most {MOST_MEMORY})" if count >= 100_000 else ""
+    print(f"  memory {each:.0f} bytes a block{wanted}", flush=True)
 
 
 def main(folder):
     peers = compiled(folder)
-    puts(folder, peers)
+    for batch in BATCHES:
+        puts(folder, peers, made(PUT), batch)
     empty = new_store(os.path.join(folder, "empty"))
-    for count, length in ((KEPT, LENGTH), (SMALL, SMALL_LENGTH)):
-        blocks = made(count, length)
+    for count in KEPT:
+        blocks = made(count)
         store, stores = filled(folder, peers, blocks)
-        if length == LENGTH:
-            gets(folder, peers, blocks, store, stores, empty)
-        opening(folder, peers, count, length, store, stores, empty)
+        gets(folder, peers, blocks, store, stores)
+        opening(folder, count, store, empty)
 
 
 if __name__ == "__main__":

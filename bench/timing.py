@@ -20,16 +20,19 @@ def run(words, source, folder):
     return done.stdout
 
 
-def seconds(words, source, folder):
-    """How long one run of the command takes."""
+def seconds(words, source, folder, status=0):
+    """How long one run of the command takes, which is to end with this status."""
     with open(source, "rb") as file:
         start = time.perf_counter()
-        subprocess.run(words, stdin=file, stdout=subprocess.DEVNULL, cwd=folder, check=True)
-        return time.perf_counter() - start
+        done = subprocess.run(words, stdin=file, stdout=subprocess.DEVNULL, cwd=folder, check=False)
+        took = time.perf_counter() - start
+    if done.returncode != status:
+        sys.exit(f"{words[0]} ended with status {done.returncode} on {source}")
+    return took
 
 
 def best(commands):
-    """The best of RUNS runs of each command: its words, the file that it reads, and the folder that it runs in."""
+    """The best of RUNS runs of each command: its words, its input, the folder that it runs in, and perhaps its status."""
     times = [float("inf")] * len(commands)
     for _ in range(RUNS):
         for place, command in enumerate(commands):
@@ -60,9 +63,9 @@ def put_script(path, pairs, store, answer):
         sys.exit(f"{path}: the store does not answer {answer}")
 
 
-def trace(path, store):
+def trace(path, store, status=0):
     """The command that runs a script on a store; without the launcher, whose time would count."""
-    return ([PROGRAM, "trace"], path, store)
+    return ([PROGRAM, "trace"], path, store, status)
 
 
 def shown(time_of):

@@ -2,8 +2,10 @@
 package main
 
 import (
+	"bufio"
 	"bytes"
 	"encoding/binary"
+	"encoding/hex"
 	"fmt"
 	"log"
 	"os"
@@ -32,20 +34,19 @@ func blocksOf(path string) (blocks []block) {
 	return
 }
 
+func tell(start time.Time) {
+	fmt.Fprintln(os.Stderr, time.Since(start).Seconds())
+}
+
 func main() {
-	start := time.Now()
 	db, err := badger.Open(badger.DefaultOptions(os.Args[2]).WithSyncWrites(true).WithLogger(nil))
 	good(err)
 	defer db.Close()
-	if os.Args[1] == "open" {
-		fmt.Println(time.Since(start).Seconds())
-		return
-	}
 	blocks := blocksOf(os.Args[3])
 	if os.Args[1] == "put" {
 		batch, err := strconv.Atoi(os.Args[4])
 		good(err)
-		start = time.Now()
+		start := time.Now()
 		for len(blocks) > 0 {
 			if batch > len(blocks) {
 				batch = len(blocks)
@@ -60,28 +61,39 @@ func main() {
 			}))
 			blocks = blocks[batch:]
 		}
-		fmt.Println(time.Since(start).Seconds())
+		tell(start)
 		return
 	}
-	read(db, blocks, true)
-	start = time.Now()
-	read(db, blocks, false)
-	fmt.Println(time.Since(start).Seconds())
+	// once to compare, and what that brings into memory is there when it is timed
+	read(db, blocks, func(data []byte, block block) {
+		if !bytes.Equal(data, block.data) {
+			log.Fatal("another block")
+		}
+	})
+	out := bufio.NewWriterSize(os.Stdout, 65536)
+	var line []byte
+	start := time.Now()
+	read(db, blocks, func(data []byte, _ block) {
+		if end := hex.EncodedLen(len(data)); end > len(line) {
+			line = make([]byte, end)
+		}
+		out.WriteString("found ")
+		out.Write(line[:hex.Encode(line, data)])
+		out.WriteByte('\n')
+	})
+	good(out.Flush())
+	tell(start)
 }
 
-func read(db *badger.DB, blocks []block, compare bool) {
+func read(db *badger.DB, blocks []block, use func(data []byte, block block)) {
 	good(db.View(func(txn *badger.Txn) error {
 		for _, block := range blocks {
 			item, err := txn.Get(block.cid)
 			if err != nil {
 				return err
 			}
-			data, err := item.ValueCopy(nil)
-			if err != nil {
+			if err := item.Value(func(data []byte) error { use(data, block); return nil }); err != nil {
 				return err
-			}
-			if compare && !bytes.Equal(data, block.data) {
-				log.Fatal("another block")
 			}
 		}
 		return nil

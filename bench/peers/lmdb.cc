@@ -35,10 +35,11 @@ public:
         good(mdb_txn_commit(txn));
     }
 
-    std::string get(std::string_view cid) {
+    // the bytes in the map of the file: they are printed from there
+    std::string_view get(std::string_view cid) {
         MDB_val key = value(cid), data;
         good(mdb_get(reader, table, &key, &data));
-        return std::string(static_cast<char *>(data.mv_data), data.mv_size);
+        return {static_cast<char *>(data.mv_data), data.mv_size};
     }
 };
 

@@ -1,11 +1,10 @@
 // What the peers share: the blocks, the clock and the commands. Each peer has a class Peer and ends with PEER_MAIN.
 //
 //     PEER put FOLDER BLOCKS BATCH   makes a store in the folder and puts the blocks, BATCH at a time, each batch synced
-//     PEER get FOLDER BLOCKS         reads each block of the file by its key, in order, into memory of its own
-//     PEER open FOLDER               opens the store
+//     PEER get FOLDER BLOCKS         gets each block of the file by its key, in order, and prints `found HEX` for each
 //
-// Each prints the seconds that this took: of `put` and `get` without opening and closing. A file of blocks holds, for
-// each, a CID of 36 bytes, the length of the data in four bytes, the low byte first, and the data.
+// Each tells on standard error the seconds that this took, without opening and closing the store. A file of blocks holds,
+// for each, a CID of 36 bytes, the length of the data in four bytes, the low byte first, and the data.
 #pragma once
 #include <algorithm>
 #include <chrono>
@@ -53,32 +52,60 @@ inline double seconds() {
     return std::chrono::duration<double>(std::chrono::steady_clock::now().time_since_epoch()).count();
 }
 
-template <typename Peer> int peer_main(int words, char **word) {
-    need(words >= 3, "put, get or open, and a folder");
-    std::string what = word[1], folder = word[2];
-    double start = seconds();
-    Peer peer(folder, what == "put");
-    if (what == "open") {
-        printf("%.9f\n", seconds() - start);
-        return 0;
+inline void tell(double start) { fprintf(stderr, "%.9f\n", seconds() - start); }
+
+// Lines `found HEX` on standard output, by a buffer of 64 KiB.
+class Found {
+    std::vector<char> buffer = std::vector<char>(65536);
+    char pair[256][2];
+    std::string line;
+
+public:
+    Found() {
+        setvbuf(stdout, buffer.data(), _IOFBF, buffer.size());
+        for (int byte = 0; byte < 256; byte++) {
+            pair[byte][0] = "0123456789abcdef"[byte >> 4];
+            pair[byte][1] = "0123456789abcdef"[byte & 15];
+        }
     }
+
+    void print(std::string_view data) {
+        line.resize(7 + 2 * data.size());
+        char *at = &line[0];
+        memcpy(at, "found ", 6);
+        at += 6;
+        for (uint8_t byte : data) {
+            memcpy(at, pair[byte], 2);
+            at += 2;
+        }
+        *at = '\n';
+        need(fwrite(line.data(), 1, line.size(), stdout) == line.size(), "standard output");
+    }
+
+    void flush() { need(fflush(stdout) == 0, "standard output"); }
+};
+
+template <typename Peer> int peer_main(int words, char **word) {
+    need(words >= 4, "put or get, a folder and a file of blocks");
+    std::string what = word[1], folder = word[2];
+    Peer peer(folder, what == "put");
     std::string bytes = whole(word[3]);
     std::vector<Block> blocks = blocks_of(bytes);
     if (what == "put") {
         size_t batch = strtoul(word[4], nullptr, 10);
-        start = seconds();
+        double start = seconds();
         for (size_t at = 0; at < blocks.size(); at += batch)
             peer.put(&blocks[at], std::min(batch, blocks.size() - at));
-        printf("%.9f\n", seconds() - start);
+        tell(start);
         return 0;
     }
     // once to compare, and what that brings into memory is there when it is timed
     for (const Block &block : blocks) need(peer.get(block.cid) == block.data, "another block");
-    size_t read = 0;
-    start = seconds();
-    for (const Block &block : blocks) read += peer.get(block.cid).size();
-    printf("%.9f\n", seconds() - start);
-    need(read == bytes.size() - 40 * blocks.size(), "other lengths");
+    static Found found;
+    double start = seconds();
+    for (const Block &block : blocks) found.print(peer.get(block.cid));
+    found.flush();
+    tell(start);
     return 0;
 }
 

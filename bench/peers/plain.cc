@@ -1,5 +1,5 @@
 // A log as SplitStore writes it, by four calls a record and nothing else: the frame is written and synced, its gate is
-// opened and synced. `open` reads the file once and enters each block into a std::map; the log may be SplitStore's.
+// opened and synced. For `get` it reads the file once and enters each block into a std::map; the log may be SplitStore's.
 #include "peer.hh"
 #include <array>
 #include <fcntl.h>

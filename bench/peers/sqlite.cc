@@ -1,4 +1,4 @@
-// SQLite: a transaction a put, with synchronous=FULL; with its write-ahead log, or with -DROLLBACK its rollback journal.
+// SQLite: a transaction a put, with synchronous=FULL and its write-ahead log.
 #include "peer.hh"
 #include <sqlite3.h>
 
@@ -25,11 +25,7 @@ class Peer {
 public:
     Peer(const std::string &folder, bool fresh) {
         good(sqlite3_open((folder + "/blocks.db").c_str(), &db) == SQLITE_OK);
-#ifdef ROLLBACK
-        run("PRAGMA journal_mode=DELETE");
-#else
         run("PRAGMA journal_mode=WAL");
-#endif
         run("PRAGMA synchronous=FULL");
         if (fresh) run("CREATE TABLE blocks (cid BLOB PRIMARY KEY, data BLOB) WITHOUT ROWID");
         insert = statement("INSERT INTO blocks VALUES (?, ?)");

@@ -28,7 +28,7 @@ pub trait Disk {
 
     ghost place: { Self → List ℕ } = { λ _. [] };
 
-    /// The length of a file, in bytes.
+    /// The length of a file, in bytes. The answer becomes the file's known length; a fault changes nothing.
     fn size(&mut self, file: u8) -> Result<u64, DiskFault>
         requires { file < 6 }
         ensures length { IsTrue told → IfOk result (λ n. n ≡ length (files self.old file)) }
@@ -39,7 +39,8 @@ pub trait Disk {
         ensures cause { HasCause (faults self.old) (faults self.new) result }
         ensures place { place self.new ≡ place self.old };
 
-    /// Fills `out` from the bytes at `at`. After a fault it may hold anything.
+    /// Fills `out` from the bytes at `at`. The place and the end must lie within the known length. A fault changes
+    /// nothing of the disk, and `out` may hold anything then.
     fn read(&mut self, file: u8, at: u64, out: &mut [u8]) -> Result<(), DiskFault>
         requires file { file < 6 }
         requires range { at + length out.old ≤ known self.old file }
@@ -65,7 +66,8 @@ pub trait Disk {
         ensures cause { HasCause (faults self.old) (faults self.new) result }
         ensures place { place self.new ≡ place self.old };
 
-    /// Waits until what was written to the file is there after any crash. After a fault it may not be.
+    /// Waits until what was written to the file is there after any crash. A failed sync changes nothing; what was
+    /// written since the last that succeeded may still be lost or torn.
     fn sync(&mut self, file: u8) -> Result<(), DiskFault>
         requires { file < 6 }
         ensures durable { IsTrue told → OnOk result ((left : Files) → image self.new (moment self.new) left → left file ≡ files self.new file) }

@@ -11,8 +11,10 @@ use std::rt::Files;
 
 /// A disk over a folder: six files, each opened or made at the first call that names it.
 ///
-/// What the operating system keeps is trusted to be what `Disk` asks for; only the bounds, the known
-/// lengths and the count of faults are proved.
+/// Only the bounds, the known lengths and the count of faults are proved. The rest of what `Disk` asks for is trusted
+/// of the operating system and the device: a read gives what was written; a range that was synced stays; a write that
+/// failed leaves other ranges alone; a sync that failed changes nothing, and one that succeeds after it makes durable
+/// what a read gives; a file that was made is there after a crash; and nobody else writes the files.
 #[derive(Drop)]
 pub struct FolderDisk<R> {
     runtime: R,

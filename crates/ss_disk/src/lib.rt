@@ -6,9 +6,10 @@
 //!
 //! The one contract is that of the trait, with the words of `specs/Disk.antt`. Between two syncs of a file a
 //! crash may leave any bytes in each range that was written since, and any length between the old one and that
-//! which a read gives; all other bytes stay. After a sync that succeeded it leaves what a read gives. A call
-//! answers [`DiskFault`] only where the count rose in that call, or stands at its end, 2^64 - 1, and succeeds
-//! only where it stayed. So code that is generic over a disk cannot invent a fault.
+//! which a read gives, or after a write that failed the end of its range, although a read gives less; all other
+//! bytes stay. After a sync that succeeded it leaves what a read gives. A call answers [`DiskFault`] only where
+//! the count rose in that call, or stands at its end, 2^64 - 1, and succeeds only where it stayed. So code that
+//! is generic over a disk cannot invent a fault.
 //!
 //! [`MemoryDisk`] tells everything. It keeps every call, so that it can answer an image of a crash after any of
 //! them, and fails at the calls that it is told to fail at, or where memory is wanting: it is for tests.

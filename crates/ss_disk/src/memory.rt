@@ -6,6 +6,7 @@ ghost use Rattle.ss_disk.specs.MemoryLaws.{reading_is_image};
 mod bytes;
 mod call;
 mod image;
+mod way;
 
 use crate::fault::count;
 use crate::{Disk, DiskFault, NoMemory};
@@ -13,6 +14,7 @@ use bytes::{cut_short, overwrite};
 pub use call::DeviceCall;
 use image::images;
 use std::alloc::{AllocError, Global};
+use way::Way;
 
 /// A disk in memory that keeps every call, so that it can tell what a crash after any of them leaves.
 /// It is for tests: its memory grows with what is written.
@@ -59,6 +61,10 @@ impl MemoryDisk {
     }
 
     /// One image that a crash now may leave, picked by the number, as a disk on which nothing is pending.
+    ///
+    /// Its known lengths begin at 0, so a `size` comes before a read. It has counted no calls and no faults, and no
+    /// call of it is to fail. By 0 to 5 each write that is not synced goes the same way: it is lost, it is whole, its
+    /// first half is there, or its range is filled with `a5`, `ff` or `5a`. By each other number it goes its own way.
     pub fn crash(&self, alloc: Global, choice: u64) -> Result<MemoryDisk, NoMemory>
         ensures fresh { IfOk result IsFresh }
         ensures image { IfOk result (λ disk. image_of self.now (moment_of self.now) (files_of disk)) }
@@ -66,7 +72,8 @@ impl MemoryDisk {
         self.crash_at(alloc, self.calls(), choice)
     }
 
-    /// In the same way, one image of the moment after the first `call` calls.
+    /// In the same way, one image of the moment after the first `call` calls. Its known lengths begin at 0 too, and
+    /// it has counted no calls and no faults.
     pub fn crash_at(&self, alloc: Global, call: u64, choice: u64) -> Result<MemoryDisk, NoMemory>
         requires { call ≤ moment_of self.now }
         ensures fresh { IfOk result IsFresh }
@@ -181,7 +188,7 @@ impl MemoryDisk {
         ensures records { MatchResult result (λ _. moment_of self.new ≡ moment_of self.old + 1) (λ _. moment_of self.new ≡ moment_of self.old) }
         ensures failing { self.new.failing ≡ self.old.failing }
     {
-        let left = cut_short(self.alloc, bytes, self.calls.len() as u64)?;
+        let left = cut_short(self.alloc, bytes, Way::of(self.calls.len() as u64))?;
         let missing = bytes.len() - left.len();
         self.put(file, at, left, missing as u64)
     }

@@ -20,24 +20,25 @@ fn front<const N: usize, D: Disk>(disk: &mut D, file: u8) -> Result<[u8; N], Dis
 fn answers<D: Disk>(disk: &mut D) -> ([bool; 5], u64) {
     let answers = [
         disk.size(3).is_ok(),
-        disk.write(3, 0, &[1, 2, 3, 4]).is_ok(),
         disk.read(3, 0, &mut []).is_ok(),
+        disk.write(3, 0, &[1, 2, 3, 4]).is_ok(),
+        disk.write(3, 0, &[5]).is_ok(),
         disk.sync(3).is_ok(),
-        disk.size(3).is_ok(),
     ];
     (answers, disk.faults())
 }
 
 #[test]
 fn a_listed_call_fails(rt: HostRuntime) -> Result<(), Fail> {
-    // The listed call, the answers, the count, and what a read gives then: a failed write leaves its range torn.
+    // The listed call, the answers, the count, and what a read gives then: a failed write leaves its range torn, call 2
+    // the first half of its bytes, and call 3 another byte.
     let table = [
-        (9, [true, true, true, true, true], 0, [1, 2, 3, 4]),
-        (0, [false, true, true, true, true], 1, [1, 2, 3, 4]),
-        (1, [true, false, true, true, true], 1, [1, 2, 3, 4]),
-        (2, [true, true, false, true, true], 1, [1, 2, 3, 4]),
-        (3, [true, true, true, false, true], 1, [1, 2, 3, 4]),
-        (4, [true, true, true, true, false], 1, [1, 2, 3, 4]),
+        (9, [true, true, true, true, true], 0, [5, 2, 3, 4]),
+        (0, [false, true, true, true, true], 1, [5, 2, 3, 4]),
+        (1, [true, false, true, true, true], 1, [5, 2, 3, 4]),
+        (2, [true, true, false, true, true], 1, [5, 2, 0xee, 0xee]),
+        (3, [true, true, true, false, true], 1, [0xa5, 2, 3, 4]),
+        (4, [true, true, true, true, false], 1, [5, 2, 3, 4]),
     ];
     for (call, expected, faults, bytes) in table {
         let mut disk = MemoryDisk::new(rt.alloc())?;
@@ -72,12 +73,16 @@ fn a_crash_leaves_what_its_number_picks(rt: HostRuntime) -> Result<(), Fail> {
         (1, 1, [1, 2, 3, 0xee]),
         (1, 2, [1, 0xee, 0xee, 0xee]),
         (1, 3, [0xa5, 0xa5, 0xa5, 0xee]),
+        (1, 4, [0xff, 0xff, 0xff, 0xee]),
+        (1, 5, [0x5a, 0x5a, 0x5a, 0xee]),
         (2, 0, [1, 2, 3, 0xee]),
         (2, 3, [1, 2, 3, 0xee]),
         (3, 0, [1, 2, 3, 0xee]),
         (3, 1, [4, 5, 6, 7]),
         (3, 2, [4, 5, 3, 0xee]),
         (3, 3, [0xa5, 0xa5, 0xa5, 0xa5]),
+        (3, 4, [0xff, 0xff, 0xff, 0xff]),
+        (3, 5, [0x5a, 0x5a, 0x5a, 0x5a]),
     ];
     for (call, choice, bytes) in table {
         assert!(rt; call <= disk.calls());
@@ -91,6 +96,24 @@ fn a_crash_leaves_what_its_number_picks(rt: HostRuntime) -> Result<(), Fail> {
     let mut left = disk.crash(rt.alloc(), 2)?;
     assert_eq!(rt; (left.calls(), left.faults()), (0, 0));
     assert_eq!(rt; front(&mut left, 0)?, [4, 5, 3, 0xee]);
+    Ok(())
+}
+
+#[test]
+fn two_files_fare_apart(rt: HostRuntime) -> Result<(), Fail> {
+    let mut disk = MemoryDisk::new(rt.alloc())?;
+    disk.write(0, 0, &[1, 2])?;
+    disk.write(1, 0, &[3, 4])?;
+    let mut seen = [false; 2];
+    for choice in 6..16u64 {
+        let mut left = disk.crash(rt.alloc(), choice)?;
+        match (front::<2, _>(&mut left, 0)?, front::<2, _>(&mut left, 1)?) {
+            ([0xee, 0xee], [3, 4]) => seen[0] = true,
+            ([1, 2], [0xee, 0xee]) => seen[1] = true,
+            _ => {}
+        }
+    }
+    assert_eq!(rt; seen, [true, true]);
     Ok(())
 }
 
@@ -111,19 +134,26 @@ fn a_folder_keeps_six_files(rt: HostRuntime) -> Result<(), Fail> {
         let _ = fs::remove_file(&rt, name);
         assert_eq!(rt; disk.size(file)?, 0);
         disk.write(file, 0, &[6, 7, 8])?;
-        disk.write(file, 0, &[9])?;
+        disk.write(file, 2, &[9, 10])?;
         disk.sync(file)?;
-        assert_eq!(rt; fs::read(&rt, name)?.as_slice(), [9, 7, 8].as_slice());
+        assert_eq!(rt; fs::read(&rt, name)?.as_slice(), [6, 7, 9, 10].as_slice());
     }
     let mut again = FolderDisk::new(rt.alloc(), rt.clone()?, ".")?;
     is_send(&again);
-    assert_eq!(rt; front(&mut again, 4)?, [9, 7, 8, 0xee]);
-    assert_eq!(rt; again.faults(), 0);
+    let size = again.size(4)?;
+    assert!(rt; size == 4);
+    let mut middle = [0; 2];
+    again.read(4, 1, &mut middle)?;
+    assert_eq!(rt; (middle, again.faults()), ([7, 9], 0));
 
     // A file that lost bytes that were known to be there.
-    fs::write(&rt, "meta.log", [9])?;
-    assert_eq!(rt; front::<4, _>(&mut again, 4), Err(DiskFault));
+    let size = again.size(4)?;
+    assert!(rt; size == 4);
+    fs::write(&rt, "meta.log", [6])?;
+    assert_eq!(rt; again.read(4, 0, &mut [0; 4]), Err(DiskFault));
     assert_eq!(rt; again.faults(), 1);
+    assert_eq!(rt; again.size(4), Err(DiskFault));
+    assert_eq!(rt; again.faults(), 2);
 
     let mut nowhere = FolderDisk::new(rt.alloc(), rt.clone()?, "nowhere")?;
     assert_eq!(rt; answers(&mut nowhere), ([false; 5], 5));

@@ -151,7 +151,9 @@ impl GateLog {
         Ok(body)
     }
 
-    /// Empties the log. `DiskFault`: the first gate is in doubt.
+    /// Empties the log. One that is empty and sure is not touched.
+    ///
+    /// `DiskFault`: the first gate is in doubt, so the list is the old one or empty, until `settle`.
     pub fn restart<D: Disk>(&mut self, disk: &mut D) -> Result<(), LogFault>
         requires sure { self.old.unsure ≡ false }
         requires known { self.old.end + 1 ≤ D.known disk.old self.old.file }

@@ -2,6 +2,7 @@
 ghost use Rattle.std.specs.Prelude.{◌≡◌, ◌≤◌, IfOk, OnOk, OnErr, length, vec_len};
 ghost use Rattle.ss_disk.specs.Disk.{Holds};
 
+use super::way::Way;
 use std::alloc::{AllocError, Global};
 
 /// Puts bytes into a file from `at` on. Where they pass its end the file grows.
@@ -16,24 +17,14 @@ pub(super) fn overwrite(file: &mut Vec<u8>, at: usize, bytes: &[u8]) -> Result<(
     Ok(())
 }
 
-/// What a write leaves that is cut short, by a number: nothing, all of its bytes, the first half of
-/// them, or as many others.
-pub(super) fn cut_short(alloc: Global, bytes: &[u8], pick: u64) -> Result<Vec<u8>, AllocError>
+/// What a write of these bytes leaves that goes this way.
+pub(super) fn cut_short(alloc: Global, bytes: &[u8], way: Way) -> Result<Vec<u8>, AllocError>
     ensures { IfOk result (λ left. length left.items ≤ length bytes.now) }
 {
-    match pick % 4 {
-        0 => Ok(Vec::new(alloc)),
-        1 => bytes.to_vec(alloc),
-        2 => bytes[..bytes.len() / 2].to_vec(alloc),
-        _ => vec![in alloc; filler(pick / 4); bytes.len()],
-    }
-}
-
-fn filler(pick: u64) -> u8 {
-    match pick % 4 {
-        0 => 0xa5,
-        1 => 0x00,
-        2 => 0xff,
-        _ => 0x5a,
+    match way {
+        Way::Absent => Ok(Vec::new(alloc)),
+        Way::Whole => bytes.to_vec(alloc),
+        Way::Half => bytes[..bytes.len() / 2].to_vec(alloc),
+        Way::Filled { byte } => vec![in alloc; byte; bytes.len()],
     }
 }

@@ -6,6 +6,7 @@ ghost use Rattle.ss_disk.specs.Disk.{Torn};
 
 use super::bytes::{cut_short, overwrite};
 use super::call::DeviceCall;
+use super::way::Way;
 use std::alloc::{AllocError, Global};
 
 /// One image of all files that a crash after these calls may leave.
@@ -112,7 +113,7 @@ fn tear_all(
     ensures { OnOk result ((first : List ℕ) (earlier : List DeviceCall) → MayLeave first earlier bytes.old.items → MayLeave first (story file calls.now ++ earlier) bytes.new.items) }
 {
     for (index, call) in calls.iter().enumerate() {
-        tear(alloc, bytes, call, file, pick(choice, file, index))?;
+        tear(alloc, bytes, call, file, way(choice, file, index))?;
     }
     Ok(())
 }
@@ -123,7 +124,7 @@ fn tear(
     bytes: &mut Vec<u8>,
     call: &DeviceCall,
     file: u8,
-    pick: u64,
+    way: Way,
 ) -> Result<(), AllocError>
     ensures { OnOk result (Tears file call.now bytes.old.items bytes.new.items) }
 {
@@ -133,7 +134,7 @@ fn tear(
             at,
             left,
             ..
-        } if *written == file => tear_write(alloc, bytes, *at, left, pick),
+        } if *written == file => tear_write(alloc, bytes, *at, left, way),
         _ => Ok(()),
     }
 }
@@ -143,7 +144,7 @@ fn tear_write(
     bytes: &mut Vec<u8>,
     at: u64,
     left: &[u8],
-    pick: u64,
+    way: Way,
 ) -> Result<(), AllocError>
     ensures { OnOk result ((n : ℕ) → length left.now ≤ n → Torn at n bytes.old.items bytes.new.items) }
 {
@@ -152,14 +153,14 @@ fn tear_write(
         // The file ends before the write: a crash that took what stood there took this too.
         return Ok(());
     }
-    overwrite(bytes, at, &cut_short(alloc, left, pick)?)
+    overwrite(bytes, at, &cut_short(alloc, left, way)?)
 }
 
-// Which way a write goes: the same way for all below 4, else one for each, by the file and the call.
-fn pick(choice: u64, file: u8, call: usize) -> u64 {
-    if choice < 4 {
-        return choice;
+// Which way a write goes: the same way for all below 6, else one for each, by the file and the call.
+fn way(choice: u64, file: u8, call: usize) -> Way {
+    if choice < 6 {
+        return Way::of(choice);
     }
     let mixed = (choice ^ (call as u64)).wrapping_mul(0x9e37_79b9_7f4a_7c15) ^ u64::from(file);
-    mixed.wrapping_mul(0xbf58_476d_1ce4_e5b9) >> 32
+    Way::of(mixed.wrapping_mul(0xbf58_476d_1ce4_e5b9) >> 32)
 }

@@ -1,8 +1,10 @@
 mod Bodies
+pub mod EachReading
 mod Faults
 mod Fresh
 mod Grown
 mod Maps
+mod Misfits
 mod Opened
 mod Pairs
 mod Passed

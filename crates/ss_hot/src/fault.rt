@@ -15,7 +15,8 @@ pub enum StoreFault {
     /// The record would take `need` bytes of the log in file `file`, its gate and length among them, and there is room for
     /// `room`.
     LogFull { file: u8, need: u64, room: u64 },
-    /// The file is damaged: the record whose gate is at `at` is the first at fault.
+    /// The file is damaged: the record whose gate is at `at` is the first at fault; or `at` is 14, the place of the settings'
+    /// gate, where no record is at fault and more blocks are hot than `rows`.
     Damaged { file: u8, at: u64 },
 }
 

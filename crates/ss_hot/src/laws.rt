@@ -1,5 +1,5 @@
 //! Laws of a half's records. Each function does nothing: its contract is the law.
-ghost use Rattle.std.specs.Prelude.{◌≡◌, ◌+◌, ◌++◌, ◌≤◌, ℕ, List, false, length, slice_range, option_map};
+ghost use Rattle.std.specs.Prelude.{◌≡◌, ◌⊎◌, ◌+◌, ◌++◌, ◌<◌, ◌≤◌, ℕ, List, false, length, slice_index, slice_range, option_map};
 ghost use Rattle.std.specs.FinMap as finite_map;
 ghost use Rattle.ss_disk.specs.Disk.{Files};
 ghost use Rattle.ss_gatelog.specs.Log.{spelled};
@@ -24,13 +24,20 @@ pub fn blocks_stand_at_their_places()
         → option_map (λ place. slice_range file place.at (place.at + place.len)) (finite_map.get (hot_places records) cid) ≡ finite_map.get (hot_blocks records) cid }
 {}
 
-/// A file has one setting and stands for one list of records, or is damaged at one place; and not both, where no more blocks are
-/// hot than its settings allow.
+/// A file has at most one setting, stands for at most one list of records, and is damaged at no more than one place. One that
+/// stands for records of which its settings allow the blocks is not damaged.
 pub fn one_reading()
     ensures settings { (file : List ℕ) (a b : Settings) → HasSettings file a → HasSettings file b → a ≡ b }
     ensures records { (file : List ℕ) (a b : Settings) (r s : List Record) → IsHalf file a r → IsHalf file b s → r ≡ s }
     ensures apart { (file : List ℕ) (at : ℕ) (settings : Settings) (records : List Record) → IsDamagedHalf file at → IsHalf file settings records → finite_map.len (hot_blocks records) ≤ settings.rows → ⊥ }
     ensures one_place { (file : List ℕ) (at at' : ℕ) → IsDamagedHalf file at → IsDamagedHalf file at' → at ≡ at' }
+{}
+
+/// A file of bytes in which settings are committed stands for a list of records of which its settings allow the blocks, or is
+/// damaged.
+pub fn each_reading()
+    ensures { (file : List ℕ) (settings : Settings) → ((i : ℕ) → slice_index file i < 256) → HasSettings file settings
+        → ((records : List Record) × IsHalf file settings records × (finite_map.len (hot_blocks records) ≤ settings.rows)) ⊎ ((at : ℕ) × IsDamagedHalf file at) }
 {}
 
 /// A store whose log is sure is found again: each image now is a half with its settings and just its records.

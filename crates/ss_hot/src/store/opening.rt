@@ -32,7 +32,8 @@ impl HotStore {
     /// Opens the store of a disk, and answers None where no settings are committed in its file. Nothing is written.
     ///
     /// `Damaged` is at the first record at fault, or where there is none and more blocks are hot than the settings' `rows`,
-    /// at the settings.
+    /// at the settings. `NoMemory` or `DiskFault` may stand in place of None and of `Damaged`. A refusal leaves every file as it
+    /// was.
     pub fn open<D: Disk>(alloc: Global, disk: &mut D) -> Result<Option<HotStore>, StoreFault>
         ensures keeps { IsTrue D.told → IfOk result (λ found. IfSome found (λ store. (records : List Record) × IsHalf (D.files disk.old 0) store.settings records × (finite_map.len (hot_blocks records) ≤ store.settings.rows) × Keeps D.Disk disk.new store records [])) }
         ensures sure { IfOk result (λ found. IfSome found (λ store. store.log.unsure ≡ false)) }

@@ -2,6 +2,8 @@
 
 A put under a wrong blake2b-256 digest reads the script, hashes the block and keeps nothing. The same put under a hash
 code that the store does not know differs in one digit of the script, and hashes nothing. What lies between is the hash.
+
+Run by `bench/run blake2b`.
 """
 import os
 import random

@@ -3,6 +3,8 @@
 The block is nested arrays, one in the other to the last byte: each byte is a head of its own. It is put under a
 dag-cbor CID and scanned, and under a raw CID and not scanned, both with its sha2-256 digest. Behind it in the put
 stands a pair under a wrong digest, so that nothing is kept. What lies between is the scan.
+
+Run by `bench/run scan`.
 """
 import hashlib
 import os

@@ -3,6 +3,8 @@
 The program reads a script, so its times are differences of runs. Reading and judging a script is told by the same script
 with a bad last line, on which the program ends before it opens the store. The other stores time themselves, in `peers/`,
 without their opening and closing. All take turns. A peer that cannot be compiled, for want of its library, is left out.
+
+Run by `bench/run store`.
 """
 import hashlib
 import os
@@ -23,6 +25,7 @@ LENGTHS = (8, 792)
 MOST_OVER_PLAIN, MOST_OVER_LMDB = 1.3, 2
 LEAST_OPENED, MOST_MEMORY = 300_000, 160
 
+TIME = "/usr/bin/time"
 RAW = bytes.fromhex("01551220")
 BAD, BAD_STATUS = "bad\n", 9
 # where a sync costs nothing: stores are filled there before they are measured
@@ -217,7 +220,7 @@ def gets(folder, peers, blocks, store, stores):
 def memory_of(store, folder):
     """The most memory that opening a store takes, in bytes."""
     path = os.path.join(folder, "memory")
-    run(["/usr/bin/time", "-f", "%M", "-o", path, PROGRAM, "trace"], os.devnull, store)
+    run([TIME, "-f", "%M", "-o", path, PROGRAM, "trace"], os.devnull, store)
     with open(path, encoding="ascii") as file:
         return 1024 * int(file.read())
 
@@ -232,6 +235,8 @@ def opening(folder, count, store, empty):
 
 
 def main(folder):
+    if not os.path.exists(TIME):
+        sys.exit(f"store needs GNU time as {TIME}")
     peers = compiled(folder)
     for batch in BATCHES:
         puts(folder, peers, made(PUT), batch)

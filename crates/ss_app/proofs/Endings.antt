@@ -8,6 +8,8 @@ use Rattle.std.proofs.lemmas.List.{append-nil}
 use Rattle.ss_app.proofs.Appending.{appends_more, front_behind, front_of_more, front_whole}
 use Rattle.ss_io.specs.Causes.{Rose}
 use Rattle.ss_disk.specs.declared.disk.Disk.{Ghosts}
+use Rattle.ss_disk.specs.Disk.{Same}
+use Rattle.ss_disk.specs.Calls.{Goes}
 use Rattle.ss_app.specs.declared.TheConstants.{SCRIPT_BYTES}
 use Rattle.ss_app.specs.declared.script.Line.{Line}
 use Rattle.ss_app.specs.declared.script.ScriptFault.{ScriptFault}
@@ -20,6 +22,7 @@ use Rattle.ss_app.specs.declared.store.OpenFault.{OpenFault}
 use Rattle.ss_app.specs.declared.store.OpenFault.TheVariants as opening
 use Rattle.ss_app.specs.Ending.{line_of, status_of, ending_of, ending_of_open}
 use Rattle.ss_app.specs.Input.{IsTooLong}
+use Rattle.ss_app.specs.Opening.{HasNoStore}
 use Rattle.ss_app.specs.Run.{InOrder}
 use Rattle.ss_app.specs.Stands.{StandsFor}
 use Rattle.ss_hot.specs.File.{IsDamagedHalf}
@@ -27,8 +30,9 @@ use Rattle.ss_model.specs.State.{State}
 use Rattle.ss_model.specs.declared.call.Entry.{Entry}
 use Rattle.std.specs.Option.{ForSome}
 use Rattle.std.specs.List.{list_any}
+use Rattle.ss_app.proofs.Still.{same_touches}
 use Rattle.ss_app.proofs.Fulfilled.{fulfilled, no_faults, err_or_ok, oks}
-use Rattle.ss_app.specs.Outcome.{Says, Traced, Made, HasReason, IsWhole, AsksFor, Asks, IsLegalFrom, IsValidTrace, HasNoStore}
+use Rattle.ss_app.specs.Outcome.{Says, Traced, Made, HasReason, IsWhole, AsksFor, Asks, IsLegalFrom, IsValidTrace}
 use Rattle.ss_app.specs.Room.{IsFulfilled, faults_in, is_refused}
 use Rattle.ss_app.specs.Script.{script_of}
 
@@ -67,16 +71,15 @@ asks_for left behind bytes lines took ended short asks script told = subst (λ t
 
 module _ {D : Type 0} (disk : Ghosts D) (was is : D) (left behind : Option (List ℕ)) (before now : ℕ) (old new : Option (List ℕ)) (had has status : ℕ) where
   -- a run that made no call
-  pub no_call : (ending : Ending) → disk.faults was ≤ disk.faults is → HasReason disk was is left behind before now [] ending
+  pub no_call : (ending : Ending) → Goes disk Same was is → HasReason disk was is left behind before now [] ending
       → ((script : List ℕ) (lines : List Line) → IsValidTrace disk was is left before now had has script lines → (ending ≡ NoMemory) ⊎ ((ending ≡ Done) × IsFulfilled []))
       → Says old new had has (line_of ending) (status_of ending) status → Traced disk was is left behind before now old new had has status
-  no_call ending later reason valid said = record {
+  no_call ending goes reason valid said = record {
     ending = ending;
     history = [];
-    limit = 0;
     printed = [];
     unprinted = [];
-    is_history = record { legal = λ _. inl refl; counted = omega (arith, later); rooms = tt };
+    is_history = record { legal = λ _. inl refl; counted = let later = goes.faults in omega (arith, later); touches = same_touches disk was is goes; still = λ _. goes };
     text_is = refl;
     whole = whole_of_none ending;
     reason = reason;
@@ -84,43 +87,43 @@ module _ {D : Type 0} (disk : Ghosts D) (was is : D) (left behind : Option (List
     said = said;
   }
 
-  pub no_memory : disk.faults was ≤ disk.faults is → Says old new had has (line_of NoMemory) 3 status → Traced disk was is left behind before now old new had has status
-  no_memory later said = no_call NoMemory later ([], tt, λ script told. inl refl) (λ script lines valid. inl refl) said
+  pub no_memory : Goes disk Same was is → Says old new had has (line_of NoMemory) 3 status → Traced disk was is left behind before now old new had has status
+  no_memory goes said = no_call NoMemory goes ([], tt, λ script told. inl refl) (λ script lines valid. inl refl) said
 
-  pub read_fault : disk.faults was ≤ disk.faults is → Rose before now → Says old new had has (line_of ends.ReadFault) 4 status → Traced disk was is left behind before now old new had has status
-  read_fault later rose said = no_call ends.ReadFault later (refl, rose) (λ script lines valid. absurd (valid.source rose)) said
+  pub read_fault : Goes disk Same was is → Rose before now → Says old new had has (line_of ends.ReadFault) 4 status → Traced disk was is left behind before now old new had has status
+  read_fault goes rose said = no_call ends.ReadFault goes (refl, rose) (λ script lines valid. absurd (valid.source rose)) said
 
-  pub too_long : disk.faults was ≤ disk.faults is → IsTooLong left → Says old new had has (line_of ends.TooLong) 13 status → Traced disk was is left behind before now old new had has status
-  too_long later long said = no_call ends.TooLong later (refl, long) (λ script lines valid. let more = long script valid.told in let most = valid.asks.0 in absurd (omega (arith, more, most))) said
+  pub too_long : Goes disk Same was is → IsTooLong left → Says old new had has (line_of ends.TooLong) 13 status → Traced disk was is left behind before now old new had has status
+  too_long goes long said = no_call ends.TooLong goes (refl, long) (λ script lines valid. let more = long script valid.told in let most = valid.asks.0 in absurd (omega (arith, more, most))) said
 
   -- the script is not read
-  pub script_refused : (bytes : List ℕ) (fault : ScriptFault) → disk.faults was ≤ disk.faults is
+  pub script_refused : (bytes : List ℕ) (fault : ScriptFault) → Goes disk Same was is
       → Consumes left behind bytes → IsAtEnd behind → length bytes ≤ SCRIPT_BYTES → (fault ≡ script_fault.NoMemory) ⊎ (script_of bytes ≡ Err fault)
       → Says old new had has (line_of (ending_of fault)) (status_of (ending_of fault)) status → Traced disk was is left behind before now old new had has status
-  script_refused bytes script_fault.NoMemory later took ended short why said = no_memory later said
-  script_refused bytes (Bad line kind) later took ended short (inl none) said = absurd (cc)
-  script_refused bytes (Bad line kind) later took ended short (inr bad) said = no_call (BadScript line kind) later
+  script_refused bytes script_fault.NoMemory goes took ended short why said = no_memory goes said
+  script_refused bytes (Bad line kind) goes took ended short (inl none) said = absurd (cc)
+  script_refused bytes (Bad line kind) goes took ended short (inr bad) said = no_call (BadScript line kind) goes
       (refl, λ script told. subst (λ t. (length t ≤ SCRIPT_BYTES) × (script_of t ≡ Err (Bad line kind))) (read_whole left behind bytes script took ended told) (short, bad))
       (λ script lines valid. absurd (err_or_ok _ _ _ (sym (ap script_of (read_whole left behind bytes script took ended valid.told)) ∙ bad) valid.asks.1)) said
 
   -- the store is not opened
-  pub store_refused : (fault : OpenFault) → disk.faults was ≤ disk.faults is → Asks left
+  pub store_refused : (fault : OpenFault) → Goes disk Same was is → Asks left
       → ((file : List ℕ) (at end : ℕ) (s : State) → IsDamagedHalf file at → StandsFor file end s → ⊥)
       → (fault ≡ opening.NoStore → IsTrue disk.told → HasNoStore (disk.files was 0))
       → ((file at : ℕ) → fault ≡ opening.Damaged file at → (file ≡ 0) × (IsTrue disk.told → IsDamagedHalf (disk.files was 0) at))
       → (fault ≡ opening.StoreExists → ⊥)
       → (fault ≡ opening.DiskFault → Rose (disk.faults was) (disk.faults is))
       → Says old new had has (line_of (ending_of_open fault)) (status_of (ending_of_open fault)) status → Traced disk was is left behind before now old new had has status
-  store_refused opening.NoStore later asks apart none damaged exists rose said = no_call ends.NoStore later (refl, asks, none refl)
+  store_refused opening.NoStore goes asks apart none damaged exists rose said = no_call ends.NoStore goes (refl, asks, none refl)
       (λ script lines valid. let stands = valid.stands.2 in absurd (none refl valid.tells stands.settings stands.half.committed)) said
-  store_refused opening.StoreExists later asks apart none damaged exists rose said = absurd (exists refl)
-  store_refused (opening.Damaged file at) later asks apart none damaged exists rose said =
+  store_refused opening.StoreExists goes asks apart none damaged exists rose said = absurd (exists refl)
+  store_refused (opening.Damaged file at) goes asks apart none damaged exists rose said =
       let found = damaged file at refl in
-      no_call (ends.Damaged file at) later (refl, asks, found.0, found.1)
+      no_call (ends.Damaged file at) goes (refl, asks, found.0, found.1)
       (λ script lines valid. absurd (apart _ at _ _ (found.1 valid.tells) valid.stands.2)) said
-  store_refused opening.DiskFault later asks apart none damaged exists rose said = no_call ends.DiskFault later (refl, asks, rose refl)
+  store_refused opening.DiskFault goes asks apart none damaged exists rose said = no_call ends.DiskFault goes (refl, asks, rose refl)
       (λ script lines valid. absurd (valid.faults (rose refl))) said
-  store_refused opening.NoMemory later asks apart none damaged exists rose said = no_memory later said
+  store_refused opening.NoMemory goes asks apart none damaged exists rose said = no_memory goes said
 
   -- why a run that made these calls ends so
   made_reason : (mid : Option (List ℕ)) (held : ℕ) (bytes : List ℕ) (lines : List Line) (ending : Ending) (refused : Bool)
@@ -149,7 +152,7 @@ module _ {D : Type 0} (disk : Ghosts D) (was is : D) (left behind : Option (List
       let none : faults_in m.history ≡ 0 = no_faults (disk.faults was) (disk.faults is) (faults_in m.history) m.is_history.counted valid.faults in
       inr (done, legal_complete m.history (m.is_history.legal valid.tells) order none valid)
     where
-      legal_complete : (h : List Entry) → (h ≡ []) ⊎ IsLegalFrom disk was is m.limit h → InOrder [] asked h → faults_in h ≡ 0 → IsValidTrace disk was is left before now had has script asked → IsFulfilled h
+      legal_complete : (h : List Entry) → (h ≡ []) ⊎ IsLegalFrom disk was is h → InOrder [] asked h → faults_in h ≡ 0 → IsValidTrace disk was is left before now had has script asked → IsFulfilled h
       legal_complete h (inl none) order sound valid = inl (ap (list_any is_refused) none)
       legal_complete h (inr l) order sound valid = inl (fulfilled l.state l.end h l.legal l.rooms (valid.place l.state l.end h l.stands order l.legal) sound)
 
@@ -159,7 +162,6 @@ module _ {D : Type 0} (disk : Ghosts D) (was is : D) (left behind : Option (List
   traced mid held bytes lines ending took ended sound short asks m said = record {
     ending = ending;
     history = m.history;
-    limit = m.limit;
     printed = m.printed;
     unprinted = m.unprinted;
     is_history = m.is_history;
@@ -177,7 +179,6 @@ module _ {D : Type 0} (disk : Ghosts D) (was is : D) (left behind : Option (List
   traced_refused script lines ending took ended sound short asks m five = record {
     ending = ending;
     history = m.history;
-    limit = m.limit;
     printed = text m.history;
     unprinted = [];
     is_history = m.is_history;

@@ -63,7 +63,7 @@ fulfilled s end [] legal rooms place none = refl
 fulfilled s end (e ∷ h) legal rooms place none =
     let split = parts _ (faults_in h) none in
     ap (λ b. b || list_any is_refused h) (one s end e.client e.line e.call e.answer legal.0 rooms.0 place.0 split.0)
-    ∙ fulfilled (After s e.call e.answer) (end_after s end e.call e.answer) h legal.1 rooms.1 place.1 split.1
+    ∙ fulfilled (After s e.call e.answer) (end_after s end e.call e.answer) h legal.1 rooms.2 place.1 split.1
 
 pub no_faults : (before now n : ℕ) → min (before + n) (2 ^ 64 - 1) ≤ now → ¬ (min (before + 1) (2 ^ 64 - 1) ≤ now) → n ≡ 0
 no_faults before now n few none = by n refl few

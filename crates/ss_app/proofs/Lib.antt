@@ -15,10 +15,12 @@ pub mod Puts
 pub mod Refusals
 pub mod Refused
 pub mod Reopened
+pub mod Rooms
 pub mod Sayings
 pub mod Serving
 pub mod Splits
 pub mod Steps
+pub mod Still
 pub mod StorePuts
 pub mod ViewCount
 pub mod WordLimits

@@ -11,7 +11,8 @@ use Rattle.ss_app.specs.declared.script.Line.{Line}
 use Rattle.ss_app.specs.declared.ending.Ending.{Ending}
 use Rattle.ss_app.specs.declared.ending.Ending.TheVariants as ends
 use Rattle.ss_app.specs.Ending.{status_of}
-use Rattle.ss_app.specs.Outcome.{Says, Traced, Inited, HasReason, HasInitReason, HasNoStore, AsksFor, RefusesStore, RefusesInit, IsFreeOfDisk}
+use Rattle.ss_app.specs.Opening.{HasNoStore}
+use Rattle.ss_app.specs.Outcome.{Says, Traced, Inited, HasReason, HasInitReason, AsksFor, RefusesStore, RefusesInit, IsFreeOfDisk}
 use Rattle.ss_app.proofs.Apart.{stands_apart}
 use Rattle.ss_app.proofs.Fulfilled.{err_or_ok}
 

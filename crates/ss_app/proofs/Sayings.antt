@@ -1,22 +1,21 @@
 -- What is said of a text, and of a store that is made.
-use Rattle.std.proofs.Common.{◌≡◌, inr, true, false, ℕ, List, [], Option, Result, Ok, Err, refl, sym, subst, true≢false}
+use Rattle.std.proofs.Common.{◌≡◌, ◌⊎◌, inl, inr, true, false, ℕ, List, [], Option, Result, Ok, Err, refl, sym, subst, true≢false}
 use Rattle.std.specs.Prelude.{IsTrue, codes}
 use Rattle.std.specs.Result.{is_err}
 use Rattle.std.proofs.lemmas.List.{append-nil}
 use Rattle.ss_io.specs.Causes.{Rose, HasCause}
 use Rattle.ss_io.specs.Written.{PutAppends}
 use Rattle.ss_disk.specs.declared.disk.Disk.{Ghosts}
-use Rattle.ss_disk.specs.Disk.{Files}
+use Rattle.ss_disk.specs.Disk.{Same}
+use Rattle.ss_disk.specs.Calls.{Goes}
 use Rattle.ss_records.specs.declared.record.Config.{Config as Settings}
 use Rattle.ss_hot.specs.File.{HasSettings}
-use Rattle.ss_model.specs.State.{empty_state}
 use Rattle.ss_app.specs.declared.ending.Ending.TheVariants.{Done, NoMemory, DiskFault, StoreExists}
 use Rattle.ss_app.specs.declared.store.OpenFault.{OpenFault}
 use Rattle.ss_app.specs.declared.store.OpenFault.TheVariants as opening
 use Rattle.ss_app.specs.Ending.{line_of, status_of, ending_of_open}
-use Rattle.ss_app.specs.Opening.{IsInitFault}
-use Rattle.ss_app.specs.Outcome.{Says, Inited, HasNoStore}
-use Rattle.ss_app.specs.Stands.{StandsFor}
+use Rattle.ss_app.specs.Opening.{HasNoStore, IsInitFault}
+use Rattle.ss_app.specs.Outcome.{Says, Inited, IsNewStore}
 use Rattle.ss_app.proofs.Endings.{says_behind}
 
 -- the sink refused a text
@@ -31,19 +30,21 @@ says_ok (Ok x) old mid new had held has bytes status taken put cause said = subs
 
 module _ {D : Type 0} (disk : Ghosts D) (was is : D) (settings : Settings) (old new : Option (List ℕ)) (had has status : ℕ) where
   -- a store is made
-  pub made_store : (IsTrue disk.told → HasNoStore (disk.files was 0)) → (IsTrue disk.told → (left : Files) → disk.image is (disk.moment is) left → (end : ℕ) × StandsFor (left 0) end (empty_state settings))
+  pub made_store : (IsTrue disk.told → HasNoStore (disk.files was 0)) → (IsTrue disk.told → IsNewStore disk is settings)
       → Says old new had has (codes "store made\n") 0 status → Inited disk was is settings old new had has status
   made_store none made said = record {
     ending = Done;
     reason = λ told. (none told, made told);
+    kept = λ told. inl (none told);
     said = subst (λ b. Says old new had has b 0 status) (sym (append-nil (codes "store made\n"))) said;
   }
 
   -- none is made
   pub made_none : (fault : OpenFault) → IsInitFault fault → (fault ≡ opening.StoreExists → IsTrue disk.told → (committed : Settings) × HasSettings (disk.files was 0) committed) → (fault ≡ opening.DiskFault → Rose (disk.faults was) (disk.faults is))
+      → (IsTrue disk.told → HasNoStore (disk.files was 0) ⊎ Goes disk Same was is)
       → Says old new had has (line_of (ending_of_open fault)) (status_of (ending_of_open fault)) status → Inited disk was is settings old new had has status
-  made_none opening.NoStore may exists rose said = absurd may
-  made_none (opening.Damaged file at) may exists rose said = absurd may
-  made_none opening.StoreExists may exists rose said = record { ending = StoreExists; reason = exists refl; said = said }
-  made_none opening.DiskFault may exists rose said = record { ending = DiskFault; reason = rose refl; said = said }
-  made_none opening.NoMemory may exists rose said = record { ending = NoMemory; reason = tt; said = said }
+  made_none opening.NoStore may exists rose kept said = absurd may
+  made_none (opening.Damaged file at) may exists rose kept said = absurd may
+  made_none opening.StoreExists may exists rose kept said = record { ending = StoreExists; reason = exists refl; kept = kept; said = said }
+  made_none opening.DiskFault may exists rose kept said = record { ending = DiskFault; reason = rose refl; kept = kept; said = said }
+  made_none opening.NoMemory may exists rose kept said = record { ending = NoMemory; reason = tt; kept = kept; said = said }

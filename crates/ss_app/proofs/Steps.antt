@@ -1,16 +1,18 @@
 -- How far a run has come: the entries so far, what they left of the store, and what was printed of them.
-use Rattle.std.proofs.Common.{◌≡◌, inl, inr, ℕ, suc, min, ◌<◌, ◌≤◌, ◌+◌, ◌-◌, ◌^◌, Bool, true, false, List, [], ◌∷◌, ◌++◌, length, Option, Result, Ok, Err, refl, sym, ap, ◌∙◌, subst, append_assoc, arith, add-zero, get_or, set, length-set, length-append, true≢false}
+use Rattle.std.proofs.Common.{◌≡◌, inl, inr, ℕ, suc, min, ◌<◌, ◌≤◌, ◌+◌, ◌-◌, ◌^◌, Bool, true, false, List, [], ◌∷◌, ◌++◌, length, Option, Some, Result, Ok, Err, refl, sym, ap, ◌∙◌, subst, append_assoc, arith, add-zero, get_or, set, length-set, length-append, true≢false}
 use Rattle.std.specs.Io.KnownBytes.{Appends}
 use Rattle.std.proofs.lemmas.List.{append-nil, get_or-replicate, get_or-set_same, get_or-set_other}
 use Rattle.std.proofs.lemmas.Bool.{eqb-true}
 use Rattle.std.proofs.Common.{eq-eqb, ◌≢◌}
 use Rattle.std.proofs.lemmas.Grind.{flat_map-append}
+use Rattle.std.proofs.lemmas.List.Elements.{All-pop}
 use Rattle.std.specs.Prelude.{if◌then◌else◌, ◌==◌, replicate, OnOk, IsTrue}
 use Rattle.ss_io.specs.Causes.{Rose}
 use Rattle.ss_cid.specs.declared.memory.NoMemory as no_memory
 use Rattle.ss_disk.specs.declared.disk.Disk.{Ghosts}
 use Rattle.ss_disk.specs.Disk.{Same}
 use Rattle.ss_disk.specs.Calls.{Goes, Touches}
+use Rattle.ss_disk.proofs.Goes.{touches_on}
 use Rattle.ss_hot.specs.Store.{Hot}
 use Rattle.ss_model.specs.State.{State}
 use Rattle.ss_model.specs.Lawful.{Lawful, After, is_disk_fault}
@@ -26,7 +28,7 @@ use Rattle.ss_app.specs.declared.script.Line.{Line}
 use Rattle.ss_app.specs.declared.ending.Ending.TheVariants.{Done, NoMemory}
 use Rattle.ss_app.specs.Outcome.{Made, IsHistory, HasStore}
 use Rattle.ss_app.specs.Printing.{PrintsUnless}
-use Rattle.ss_app.specs.Room.{OfFullLog, AreCounted, HasRoomsBy, AreRooms, faults_in, end_after, doubt_after, doubt_behind}
+use Rattle.ss_app.specs.Room.{OfFullLog, AreCounted, HasRoomsBy, HadRoom, AreRooms, AreStill, faults_in, end_after, doubt_after, doubt_behind, reaches_disk}
 use Rattle.ss_cid.specs.Cid.{identity_of}
 use Rattle.std.specs.Prelude.{is_some}
 use Rattle.ss_model.specs.declared.call.GetReply.TheVariants as get
@@ -36,6 +38,7 @@ use Rattle.ss_app.specs.Stands.{StandsFor, Serves}
 use Rattle.ss_app.specs.Text.{text_from, entry_text}
 use Rattle.ss_app.proofs.Appending.{appends_more, appends_none}
 use Rattle.ss_app.proofs.Reopened.{begins_again, table_fits}
+use Rattle.ss_app.proofs.Still.{same_touches}
 
 -- one entry more
 
@@ -51,9 +54,9 @@ end_more : (s : State) (end : ℕ) (h : List Entry) (e : Entry) → end_behind s
 end_more s end [] e = refl
 end_more s end (x ∷ h) e = end_more (After s x.call x.answer) (end_after s end x.call x.answer) h e
 
-rooms_more : (s : State) (end : ℕ) (h : List Entry) (e : Entry) → AreRooms s end h → OfFullLog (λ file need room. room ≡ (AfterAll s h).config.limit - 1 - end_behind s end h) e.answer → AreRooms s end (h ++ e ∷ [])
-rooms_more s end [] e are is = (is, tt)
-rooms_more s end (x ∷ h) e are is = (are.0, rooms_more (After s x.call x.answer) (end_after s end x.call x.answer) h e are.1 is)
+rooms_more : (s : State) (end : ℕ) (h : List Entry) (e : Entry) → AreRooms s end h → OfFullLog (λ file need room. room ≡ (AfterAll s h).config.limit - 1 - end_behind s end h) e.answer → HadRoom (AfterAll s h) (end_behind s end h) e.call e.answer → AreRooms s end (h ++ e ∷ [])
+rooms_more s end [] e are is had = (is, had, tt)
+rooms_more s end (x ∷ h) e are is had = (are.0, are.1, rooms_more (After s x.call x.answer) (end_after s end x.call x.answer) h e are.2 is had)
 
 -- what holds of a full log's numbers, by what else does
 full_log : (P Q : ℕ → ℕ → ℕ → Type 0) (a : Answer) → ((file need room : ℕ) → P file need room → Q file need room) → OfFullLog P a → OfFullLog Q a
@@ -136,19 +139,27 @@ no_doubt : (told is : Bool) (k : Call) (a : Answer) → (told ≡ false → is �
 no_doubt true is k a sure none = no_doubt_from is k a none
 no_doubt false is k a sure none = ap (λ b. doubt_after b k a) (sure refl) ∙ none
 
+-- no file changed along entries of which none reached the disk
+still_more : {D : Type 0} (disk : Ghosts D) (was mid now : D) (h : List Entry) (e : Entry) → (AreStill h → Goes disk Same was mid) → (reaches_disk e.call e.answer ≡ false → now ≡ mid) → AreStill (h ++ e ∷ []) → Goes disk Same was now
+still_more disk was mid now h e before here are =
+    let parts = All-pop (λ x. reaches_disk x.call x.answer ≡ false) (h ++ e ∷ []) h (Some e) refl are in
+    subst (Goes disk Same was) (sym (here parts.1)) (before parts.0)
+
 pub story_more : {D : Type 0} (disk : Ghosts D) (was mid now : D) (hot next : Hot) (opened given : ℕ) (h : List Entry) (e : Entry)
     → Story disk was mid hot opened h
     → ((s : State) → IsTrue disk.told → Serves disk mid hot opened s → Lawful s e.call e.answer)
     → ((s : State) → IsTrue disk.told → Serves disk mid hot opened s → Serves disk now next given (After s e.call e.answer))
     → ((s : State) → IsTrue disk.told → Serves disk mid hot opened s → next.log.end ≡ end_after s hot.log.end e.call e.answer)
     → OfFullLog (λ file need room. (file ≡ 0) × (room ≡ hot.settings.limit - 1 - hot.log.end)) e.answer
+    → ((s : State) → IsTrue disk.told → Serves disk mid hot opened s → HadRoom s hot.log.end e.call e.answer)
     → next.log.end + 1 ≤ disk.known now 0
     → (IsTrue (is_disk_fault e.answer) → Rose (disk.faults mid) (disk.faults now))
     → next.settings ≡ hot.settings
     → (doubt_after hot.log.unsure e.call e.answer ≡ false → next.log.unsure ≡ false)
+    → (reaches_disk e.call e.answer ≡ false → now ≡ mid)
     → Touches disk 0 mid now
     → Story disk was now next given (h ++ e ∷ [])
-story_more disk was mid now hot next opened given h e story lawful after end room known fault same doubt touches = record {
+story_more disk was mid now hot next opened given h e story lawful after end room fits known fault same doubt still touches = record {
   told = λ t.
       let p = story.told t in
       let served = p.serves in record {
@@ -156,7 +167,7 @@ story_more disk was mid now hot next opened given h e story lawful after end roo
         end = p.end;
         stands = p.stands;
         legal = legal_more p.state h e p.legal (lawful _ t served);
-        rooms = rooms_more p.state p.end h e p.rooms (full_log _ _ e.answer (λ file need n is. is.1 ∙ ap (λ l. l - 1 - hot.log.end) (sym (ap (λ c. c.limit) served.state.config)) ∙ ap (λ l. (AfterAll p.state h).config.limit - 1 - l) p.end_is) room);
+        rooms = rooms_more p.state p.end h e p.rooms (full_log _ _ e.answer (λ file need n is. is.1 ∙ ap (λ l. l - 1 - hot.log.end) (sym (ap (λ c. c.limit) served.state.config)) ∙ ap (λ l. (AfterAll p.state h).config.limit - 1 - l) p.end_is) room) (subst (λ l. HadRoom (AfterAll p.state h) l e.call e.answer) p.end_is (fits _ t served));
         serves = subst (Serves disk now next given) (sym (after_more p.state h e)) (after _ t served);
         end_is = end _ t served ∙ ap (λ l. end_after (AfterAll p.state h) l e.call e.answer) p.end_is ∙ sym (end_more p.state p.end h e);
       };
@@ -165,6 +176,8 @@ story_more disk was mid now hot next opened given h e story lawful after end roo
       (room_more hot.settings.limit (disk.known now) h e (known_more hot.settings.limit (disk.known mid) (disk.known now) h touches.known story.rooms)
       (full_log _ _ e.answer (λ file need n is. subst (λ f. hot.settings.limit ≤ n + disk.known now f) (sym is.0) (let rise = touches.known 0 in let was_known = story.known in enough hot.settings.limit n hot.log.end (disk.known mid 0) (disk.known now 0) is.1 was_known rise)) room));
   known = known;
+  touches = touches_on disk 0 was mid now story.touches touches;
+  still = still_more disk was mid now h e story.still still;
   sure = λ none. doubt (no_doubt (doubt_behind false h) hot.log.unsure e.call e.answer story.sure (sym (doubt_more false h e) ∙ none));
 }
   where
@@ -281,6 +294,8 @@ begun_story disk was is hot opened goes serves known sure = record {
   counted = let later = goes.faults in omega (arith, later);
   rooms = tt;
   known = known;
+  touches = same_touches disk was is goes;
+  still = λ _. goes;
   sure = λ _. sure;
 }
 
@@ -356,13 +371,22 @@ module _ {D : Type 0} (disk : Ghosts D) (was : D) where
   }
 
   -- what the entries are for those who look at the run from outside
-  pub history_of : (is : D) (hot : Hot) (opened : ℕ) (h : List Entry) → Story disk was is hot opened h → IsHistory disk was is hot.settings.limit h
+  pub history_of : (is : D) (hot : Hot) (opened : ℕ) (h : List Entry) → Story disk was is hot opened h → IsHistory disk was is h
   history_of is hot opened h story = record {
     legal = λ t.
         let p = story.told t in
-        inr (record { state = p.state; end = p.end; stands = p.stands; limit_is = limit_of h p.state hot p.serves.state.config; legal = p.legal; rooms = p.rooms; left = (hot, opened, p.serves, λ none. (story.sure none, begins_again disk is hot opened (AfterAll p.state h) p.serves (story.sure none) (table_fits (disk.files was 0) p.end p.state h p.stands p.legal))) });
+        inr (record {
+          state = p.state;
+          end = p.end;
+          stands = p.stands;
+          legal = p.legal;
+          rooms = p.rooms;
+          known = subst (λ limit. HasRoomsBy limit (disk.known is) h) (sym (limit_of h p.state hot p.serves.state.config)) story.rooms;
+          left = (hot, opened, p.serves, λ none. (story.sure none, begins_again disk is hot opened (AfterAll p.state h) p.serves (story.sure none) (table_fits (disk.files was 0) p.end p.state h p.stands p.legal)));
+        });
     counted = story.counted;
-    rooms = story.rooms;
+    touches = story.touches;
+    still = story.still;
   }
 
   stands_of : (is : D) (hot : Hot) (opened : ℕ) (h : List Entry) → Story disk was is hot opened h → IsTrue disk.told → HasStore (disk.files was 0)
@@ -372,7 +396,6 @@ module _ {D : Type 0} (disk : Ghosts D) (was : D) where
   pub stopped : (is : D) (hot : Hot) (opened : ℕ) (refused : Bool) (made left lines : List Line) (old new : Option (List ℕ)) (had has : ℕ) → Cut disk was is hot opened refused made old new had has → lines ≡ made ++ left → Made disk was is lines old new had has NoMemory refused
   stopped is hot opened refused made left lines old new had has cut are = record {
     history = cut.history;
-    limit = hot.settings.limit;
     printed = cut.trail.printed;
     unprinted = cut.unprinted;
     made = made;
@@ -394,7 +417,6 @@ module _ {D : Type 0} (disk : Ghosts D) (was : D) where
   pub all_made : (is : D) (hot : Hot) (opened : ℕ) (views : List (List ℕ)) (place : ℕ) (refused : Bool) (made lines : List Line) (old new : Option (List ℕ)) (had has : ℕ) → Progress disk was is hot opened views place refused made old new had has → lines ≡ made → Made disk was is lines old new had has Done refused
   all_made is hot opened views place refused made lines old new had has p are = record {
     history = p.history;
-    limit = hot.settings.limit;
     printed = p.trail.printed;
     unprinted = p.unprinted;
     made = made;

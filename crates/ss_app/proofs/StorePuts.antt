@@ -115,7 +115,7 @@ added_lawful hot s v pairs fresh (put.TableFull rows) agree passed is some reply
     (passed, omega (arith, rows_are hot s pairs fresh agree is, reply.0), rw agree.config reply.1)
 added_lawful hot s v pairs fresh (put.LogFull file need room) agree passed is some reply =
     (admitted hot s v pairs fresh agree passed is reply.0, reply.1, not_none (new_pairs s.hot pairs) fresh (sym (agree.new pairs) ∙ is) some, reply.2 ∙ ap pairs_need (sym is ∙ agree.new pairs), reply.4)
-added_lawful hot s v pairs fresh put.DiskFault agree passed is some reply = admitted hot s v pairs fresh agree passed is reply
+added_lawful hot s v pairs fresh put.DiskFault agree passed is some reply = admitted hot s v pairs fresh agree passed is reply.0
 added_lawful hot s v pairs fresh (put.Stored new) agree passed is some reply =
     (admitted hot s v pairs fresh agree passed is reply.0, omega (arith, rows_are hot s pairs fresh agree is, agree.count, reply.1))
 added_lawful hot s v pairs fresh put.BadView agree passed is some reply = absurd reply
@@ -222,7 +222,7 @@ none_serves disk new hot more views s pairs (put.Malformed i kind at) agree is s
 
 -- ---- the log's end behind it
 
-takes : (fresh : List (List ℕ × List ℕ)) → 1 ≤ length fresh → record_bytes fresh ≡ pairs_need fresh
+pub takes : (fresh : List (List ℕ × List ℕ)) → 1 ≤ length fresh → record_bytes fresh ≡ pairs_need fresh
 takes [] some = absurd (omega arith)
 takes (p ∷ fresh) some = refl
 

@@ -1,4 +1,9 @@
 -- What opening a store, and making one, come to.
+use Rattle.std.specs.Prelude.{◌≤◌, ℕ, List, []}
+use Rattle.ss_disk.specs.Disk.{Files}
+use Rattle.ss_gatelog.specs.Log.{HasList}
+use Rattle.ss_records.specs.declared.record.Config.{Config as Settings}
+use Rattle.ss_hot.specs.File.{HasSettings}
 use Rattle.ss_hot.specs.declared.fault.StoreFault.{StoreFault}
 use Rattle.ss_hot.specs.declared.fault.StoreFault.TheVariants as store
 use Rattle.ss_app.specs.declared.store.OpenFault.{OpenFault}
@@ -10,6 +15,14 @@ open_fault_of store.NoMemory = opening.NoMemory
 open_fault_of store.DiskFault = opening.DiskFault
 open_fault_of (store.LogFull file need room) = opening.DiskFault
 open_fault_of (store.Damaged file at) = opening.Damaged file at
+
+-- no settings are committed in a file
+abbrev pub HasNoStore : List ℕ → Type 0
+HasNoStore file = (settings : Settings) → HasSettings file settings → ⊥
+
+-- each file but that of the hot log is an empty log
+abbrev pub AreEmptyBeside : ℕ → Files → Type 0
+AreEmptyBeside limit files = (file : ℕ) → 1 ≤ file → file ≤ 5 → HasList limit (files file) []
 
 -- a fault with which a store is not made
 abbrev pub IsInitFault : OpenFault → Type 0

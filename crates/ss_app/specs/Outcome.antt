@@ -10,7 +10,8 @@ use Rattle.std.specs.Io.KnownBytes.{Appends, IsAtEnd}
 use Rattle.ss_io.specs.Causes.{Rose}
 use Rattle.ss_io.specs.Written.{AppendsFront}
 use Rattle.ss_disk.specs.declared.disk.Disk.{Ghosts}
-use Rattle.ss_disk.specs.Disk.{Files}
+use Rattle.ss_disk.specs.Disk.{Files, Same}
+use Rattle.ss_disk.specs.Calls.{Goes, Touches}
 use Rattle.ss_records.specs.declared.record.Config.{Config as Settings}
 use Rattle.ss_hot.specs.File.{HasSettings, IsDamagedHalf}
 use Rattle.ss_hot.specs.Store.{Hot}
@@ -27,7 +28,8 @@ use Rattle.ss_app.specs.declared.ending.Ending.{Ending}
 use Rattle.ss_app.specs.declared.ending.Ending.TheVariants.{Done, Usage, NoMemory, ReadFault, DiskFault, NoStore, StoreExists, Damaged, BadScript, TooLong}
 use Rattle.ss_app.specs.Ending.{status_of, line_of}
 use Rattle.ss_app.specs.Input.{IsTooLong}
-use Rattle.ss_app.specs.Room.{AreCounted, HasRoomsBy, AreRooms, HavePlace, IsFulfilled, doubt_behind}
+use Rattle.ss_app.specs.Opening.{HasNoStore, AreEmptyBeside}
+use Rattle.ss_app.specs.Room.{AreCounted, HasRoomsBy, AreRooms, AreStill, HavePlace, IsFulfilled, doubt_behind}
 use Rattle.ss_app.specs.Run.{InOrder}
 use Rattle.ss_app.specs.Script.{script_of}
 use Rattle.ss_app.specs.Stands.{StandsFor, Serves}
@@ -45,10 +47,6 @@ AsksFor script lines = (length script ≤ SCRIPT_BYTES) × (script_of script ≡
 -- the script asks for some lines
 abbrev pub Asks : Option (List ℕ) → Type 0
 Asks left = (lines : List Line) × ForSome left (λ script. AsksFor script lines)
-
--- no settings are committed in a file
-abbrev pub HasNoStore : List ℕ → Type 0
-HasNoStore file = (settings : Settings) → HasSettings file settings → ⊥
 
 -- a file stands for a state
 abbrev pub HasStore : List ℕ → Type 0
@@ -78,23 +76,24 @@ IsWhole _ unprinted = Unit {0}
 abbrev pub IsServed : {D : Type 0} → Ghosts D → D → State → Bool → Type 0
 IsServed disk now s doubt = (hot : Hot) × (opened : ℕ) × Serves disk now hot opened s × (doubt ≡ false → (hot.log.unsure ≡ false) × ((left : Files) → disk.image now (disk.moment now) left → StandsFor (left 0) hot.log.end (closed s)))
 
--- From a state that the disk stood for, with this limit of a log, the history is legal, each full log had just the room that was
--- left, and the disk stands for the state behind the history.
-pub record IsLegalFrom {D : Type 0} (disk : Ghosts D) (was is : D) (limit : ℕ) (h : List Entry) : Type 0 where
+-- From a state that the disk stood for the history is legal; each full log had just the room that was left, which with what is
+-- known of the file's length makes the limit, and other puts had enough; and the disk stands for the state behind the history.
+pub record IsLegalFrom {D : Type 0} (disk : Ghosts D) (was is : D) (h : List Entry) : Type 0 where
   pub state : State
   pub end : ℕ
   pub stands : StandsFor (disk.files was 0) end state
-  pub limit_is : state.config.limit ≡ limit
   pub legal : Legal state h
   pub rooms : AreRooms state end h
+  pub known : HasRoomsBy state.config.limit (disk.known is) h
   pub left : IsServed disk is (AfterAll state h) (doubt_behind false h)
 
--- The entries over a disk: legal, where the disk tells its files; faults no more than it counted; and where a log is full, its
--- room and what is known of its file's length make the limit.
-pub record IsHistory {D : Type 0} (disk : Ghosts D) (was is : D) (limit : ℕ) (h : List Entry) : Type 0 where
-  pub legal : IsTrue disk.told → (h ≡ []) ⊎ IsLegalFrom disk was is limit h
+-- The entries over a disk: legal, where there are any and the disk tells its files; faults no more than it counted; no file
+-- changed but that of the hot log, and none where no entry may have reached the disk.
+pub record IsHistory {D : Type 0} (disk : Ghosts D) (was is : D) (h : List Entry) : Type 0 where
+  pub legal : IsTrue disk.told → (h ≡ []) ⊎ IsLegalFrom disk was is h
   pub counted : AreCounted (disk.faults was) (disk.faults is) h
-  pub rooms : HasRoomsBy limit (disk.known is) h
+  pub touches : Touches disk 0 was is
+  pub still : AreStill h → Goes disk Same was is
 
 -- Nothing stands in the way of a run of `trace`: the script is told, no longer than it may be, and asks for these lines; no count
 -- of faults rises; the disk tells its files, which stand for a state; and every legal history of these lines has a row for each
@@ -113,10 +112,9 @@ pub record IsValidTrace {D : Type 0} (disk : Ghosts D) (was is : D) (left : Opti
 pub record Traced {D : Type 0} (disk : Ghosts D) (was is : D) (left behind : Option (List ℕ)) (before now : ℕ) (old new : Option (List ℕ)) (had has : ℕ) (status : ℕ) : Type 0 where
   pub ending : Ending
   pub history : List Entry
-  pub limit : ℕ
   pub printed : List ℕ
   pub unprinted : List ℕ
-  pub is_history : IsHistory disk was is limit history
+  pub is_history : IsHistory disk was is history
   pub text_is : text history ≡ printed ++ unprinted
   pub whole : IsWhole ending unprinted
   pub reason : HasReason disk was is left behind before now history ending
@@ -128,19 +126,25 @@ abbrev pub made_text : Ending → List ℕ
 made_text Done = codes "store made\n"
 made_text _ = []
 
--- why making a store with these settings ends so: where it is done, each image now is a store in which nothing is kept
+-- each image now is a store with these settings in which nothing is kept, and no other file has a record
+abbrev pub IsNewStore : {D : Type 0} → Ghosts D → D → Settings → Type 0
+IsNewStore disk is settings =
+    (left : Files) → disk.image is (disk.moment is) left → ((end : ℕ) × StandsFor (left 0) end (empty_state settings)) × AreEmptyBeside settings.limit left
+
+-- why making a store with these settings ends so
 abbrev pub HasInitReason : {D : Type 0} → Ghosts D → D → D → Settings → Ending → Type 0
 HasInitReason disk was is settings Done =
-    IsTrue disk.told → HasNoStore (disk.files was 0) × ((left : Files) → disk.image is (disk.moment is) left → (end : ℕ) × StandsFor (left 0) end (empty_state settings))
+    IsTrue disk.told → HasNoStore (disk.files was 0) × IsNewStore disk is settings
 HasInitReason disk was is settings NoMemory = Unit {0}
 HasInitReason disk was is settings DiskFault = Rose (disk.faults was) (disk.faults is)
 HasInitReason disk was is settings StoreExists = IsTrue disk.told → (committed : Settings) × HasSettings (disk.files was 0) committed
 HasInitReason disk was is settings _ = ⊥
 
--- a run of `init`
+-- a run of `init`: where there is a store it changes no file
 pub record Inited {D : Type 0} (disk : Ghosts D) (was is : D) (settings : Settings) (old new : Option (List ℕ)) (had has : ℕ) (status : ℕ) : Type 0 where
   pub ending : Ending
   pub reason : HasInitReason disk was is settings ending
+  pub kept : IsTrue disk.told → HasNoStore (disk.files was 0) ⊎ Goes disk Same was is
   pub said : Says old new had has (made_text ending ++ line_of ending) (status_of ending) status
 
 -- a run of the command that words ask for, or the refusal of the first that is not of the form
@@ -155,12 +159,11 @@ Ran (Err word) disk was is left behind before now old new had has status = (is �
 -- Where the sink refused a line its count of faults rose, and a front of the text is written.
 pub record Made {D : Type 0} (disk : Ghosts D) (was is : D) (lines : List Line) (old new : Option (List ℕ)) (had has : ℕ) (ending : Ending) (refused : Bool) : Type 0 where
   pub history : List Entry
-  pub limit : ℕ
   pub printed : List ℕ
   pub unprinted : List ℕ
   pub made : List Line
   pub left : List Line
-  pub is_history : IsHistory disk was is limit history
+  pub is_history : IsHistory disk was is history
   pub stands : IsTrue disk.told → HasStore (disk.files was 0)
   pub ends : (ending ≡ Done) ⊎ (ending ≡ NoMemory)
   pub lines_are : lines ≡ made ++ left

@@ -4,13 +4,15 @@ use Rattle.std.specs.Io.KnownBytes.{Appends}
 use Rattle.ss_io.specs.Causes.{Rose}
 use Rattle.ss_cid.specs.declared.memory.NoMemory as no_memory
 use Rattle.ss_disk.specs.declared.disk.Disk.{Ghosts}
+use Rattle.ss_disk.specs.Disk.{Same}
+use Rattle.ss_disk.specs.Calls.{Goes, Touches}
 use Rattle.ss_hot.specs.Store.{Hot}
 use Rattle.ss_model.specs.State.{State}
 use Rattle.ss_model.specs.Lawful.{After}
 use Rattle.ss_model.specs.History.{Legal, AfterAll}
 use Rattle.ss_model.specs.declared.call.Entry.{Entry}
 use Rattle.ss_app.specs.declared.script.Line.{Line}
-use Rattle.ss_app.specs.Room.{AreCounted, HasRoomsBy, AreRooms, end_after, doubt_behind}
+use Rattle.ss_app.specs.Room.{AreCounted, HasRoomsBy, AreRooms, AreStill, end_after, doubt_behind}
 use Rattle.ss_app.specs.Run.{InOrder, views_of, client_views}
 use Rattle.ss_app.specs.Stands.{StandsFor, Serves}
 use Rattle.ss_app.specs.Text.{text}
@@ -36,6 +38,8 @@ pub record Story {D : Type 0} (disk : Ghosts D) (was now : D) (hot : Hot) (views
   pub counted : AreCounted (disk.faults was) (disk.faults now) h
   pub rooms : HasRoomsBy hot.settings.limit (disk.known now) h
   pub known : hot.log.end + 1 ≤ disk.known now 0
+  pub touches : Touches disk 0 was now
+  pub still : AreStill h → Goes disk Same was now
   pub sure : doubt_behind false h ≡ false → hot.log.unsure ≡ false
 
 -- the entries of these lines, with what is not printed of them

@@ -39,8 +39,9 @@ IsAddReply hot fresh put.NoMemory = Unit {0}
 IsAddReply hot fresh (put.TableFull rows) = (rows ≡ finite_map.len hot.places + length fresh) × (hot.settings.rows < rows)
 IsAddReply hot fresh (put.LogFull file need room) =
     (finite_map.len hot.places + length fresh ≤ hot.settings.rows) × (file ≡ 0) × (need ≡ 5 + body_bytes fresh) × (room ≡ hot.settings.limit - 1 - hot.log.end) × (room < need)
-IsAddReply hot fresh put.DiskFault = finite_map.len hot.places + length fresh ≤ hot.settings.rows
-IsAddReply hot fresh (put.Stored new) = (finite_map.len hot.places + length fresh ≤ hot.settings.rows) × (new ≡ length fresh)
+IsAddReply hot fresh put.DiskFault = (finite_map.len hot.places + length fresh ≤ hot.settings.rows) × (5 + body_bytes fresh ≤ hot.settings.limit - 1 - hot.log.end)
+IsAddReply hot fresh (put.Stored new) =
+    (finite_map.len hot.places + length fresh ≤ hot.settings.rows) × (new ≡ length fresh) × (5 + body_bytes fresh ≤ hot.settings.limit - 1 - hot.log.end)
 IsAddReply hot fresh _ = ⊥
 
 -- what the store stands for behind that answer: its records and that of the new blocks, or its records

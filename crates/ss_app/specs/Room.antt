@@ -1,5 +1,5 @@
--- Faults of the disk, and the room in the log, along a history.
-use Rattle.std.specs.Prelude.{◌≡◌, ◌⊎◌, ℕ, min, ◌+◌, ◌-◌, ◌^◌, ◌≤◌, List, [], ◌∷◌, Bool, true, false, ◌||◌, if◌then◌else◌, is_some}
+-- Along a history: faults of the disk, the room in the log, and which calls reach the disk.
+use Rattle.std.specs.Prelude.{◌≡◌, ◌⊎◌, ℕ, min, ◌+◌, ◌-◌, ◌^◌, ◌≤◌, List, [], ◌∷◌, Bool, true, false, ◌||◌, if◌then◌else◌, is_some, is_none, All}
 use Rattle.std.specs.List.{list_any}
 use Rattle.ss_model.specs.State.{State}
 use Rattle.ss_model.specs.Lawful.{After, IsPassed, new_pairs, pairs_need, rows_after, is_disk_fault, is_log_full, is_table_full, is_no_memory}
@@ -43,11 +43,17 @@ abbrev pub end_after : State → ℕ → Call → Answer → ℕ
 end_after s end (call.Put v pairs) (answer.Put (put.Stored new)) = end + record_bytes (new_pairs s.hot pairs)
 end_after s end _ _ = end
 
--- each full log had just the room that the records before it left
+-- a put that was stored, or that the disk failed, had room for its record
+abbrev pub HadRoom : State → ℕ → Call → Answer → Type 0
+HadRoom s end (call.Put v pairs) (answer.Put (put.Stored new)) = record_bytes (new_pairs s.hot pairs) ≤ s.config.limit - 1 - end
+HadRoom s end (call.Put v pairs) (answer.Put put.DiskFault) = record_bytes (new_pairs s.hot pairs) ≤ s.config.limit - 1 - end
+HadRoom s end _ _ = Unit {0}
+
+-- each full log had just the room that the records before it left, and puts that came further had enough
 abbrev pub AreRooms : State → ℕ → List Entry → Type 0
 AreRooms s end [] = Unit {0}
 AreRooms s end (e ∷ h) =
-    OfFullLog (λ file need room. room ≡ s.config.limit - 1 - end) e.answer × AreRooms (After s e.call e.answer) (end_after s end e.call e.answer) h
+    OfFullLog (λ file need room. room ≡ s.config.limit - 1 - end) e.answer × HadRoom s end e.call e.answer × AreRooms (After s e.call e.answer) (end_after s end e.call e.answer) h
 
 -- a put has a row for each block and room for its record
 abbrev pub HasPlace : State → ℕ → Call → Type 0
@@ -81,6 +87,29 @@ doubt_after was _ _ = was
 abbrev pub doubt_behind : Bool → List Entry → Bool
 doubt_behind was [] = was
 doubt_behind was (e ∷ h) = doubt_behind (doubt_after was e.call e.answer) h
+
+-- whether a put that is answered so may have reached the disk
+abbrev pub put_reaches : PutReply → Bool
+put_reaches (put.Stored new) = true
+put_reaches put.DiskFault = true
+put_reaches put.NoMemory = true
+put_reaches _ = false
+
+-- the same of a get: it may where a block was looked up that is not its own CID's
+abbrev pub get_reaches : List ℕ → GetReply → Bool
+get_reaches c (get.Found block) = is_none (identity_of c)
+get_reaches c get.DiskFault = is_none (identity_of c)
+get_reaches c get.NoMemory = is_none (identity_of c)
+get_reaches c _ = false
+
+abbrev pub reaches_disk : Call → Answer → Bool
+reaches_disk (call.Put v pairs) (answer.Put r) = put_reaches r
+reaches_disk (call.Get v c) (answer.Get r) = get_reaches c r
+reaches_disk _ _ = false
+
+-- no entry may have reached the disk
+abbrev pub AreStill : List Entry → Type 0
+AreStill h = All (λ e. reaches_disk e.call e.answer ≡ false) h
 
 -- the entry is a fault of the disk, a full log or a full table
 abbrev pub is_refused : Entry → Bool

@@ -27,7 +27,8 @@ pub enum Ending {
     NoStore,
     /// The disk has a store already.
     StoreExists,
-    /// A file is damaged: the record whose gate is at `at` is the first at fault.
+    /// A file is damaged: `at` is the place of the gate of the first record at fault; or 14, that of the settings, where no
+    /// record is at fault and more blocks are hot than the settings allow.
     Damaged { file: u8, at: u64 },
     /// The line of the script is at fault.
     BadScript { line: u32, kind: ScriptKind },

@@ -1,10 +1,13 @@
 //! What a run leaves to the next one, as laws: each is the contract of a function with an empty body.
 
-ghost use Rattle.std.specs.Prelude.{◌≡◌, ◌≤◌, ℕ, List, false};
+ghost use Rattle.std.specs.Prelude.{◌≡◌, ◌⊎◌, ◌<◌, ◌≤◌, ℕ, List, false, slice_index};
 ghost use Rattle.std.specs.FinMap as finite_map;
 ghost use Rattle.ss_disk.specs.Disk.{Files};
+ghost use Rattle.ss_records.specs.declared.record.Config.{Config as Settings};
+ghost use Rattle.ss_hot.specs.File.{HasSettings, IsDamagedHalf};
 ghost use Rattle.ss_hot.specs.Store.{Hot};
 ghost use Rattle.ss_model.specs.State.{State, closed};
+ghost use Rattle.ss_app.specs.Outcome.{HasStore};
 ghost use Rattle.ss_app.specs.Stands.{StandsFor, AreAlike, Serves};
 
 use ss_disk::Disk;
@@ -19,4 +22,10 @@ pub fn next_run_begins_where_this_ended<D: Disk>()
 pub fn a_file_stands_for_one_state()
     ensures end { (file : List ℕ) (a b : ℕ) (s t : State) → StandsFor file a s → StandsFor file b t → a ≡ b }
     ensures state { (file : List ℕ) (a b : ℕ) (s t : State) → StandsFor file a s → StandsFor file b t → AreAlike s t }
+{}
+
+/// A file of bytes in which settings are committed stands for a state or is damaged, and not both.
+pub fn a_store_stands_for_a_state_or_is_damaged()
+    ensures either { (file : List ℕ) (settings : Settings) → ((i : ℕ) → slice_index file i < 256) → HasSettings file settings → HasStore file ⊎ ((at : ℕ) × IsDamagedHalf file at) }
+    ensures apart { (file : List ℕ) (at end : ℕ) (s : State) → IsDamagedHalf file at → StandsFor file end s → ⊥ }
 {}

@@ -11,10 +11,11 @@ ghost use Rattle.ss_io.specs.Causes.{Rose};
 ghost use Rattle.ss_app.specs.declared.script.Line.{Line};
 ghost use Rattle.ss_app.specs.declared.words.Command.TheVariants as command;
 ghost use Rattle.ss_app.specs.Ending.{status_of, line_of};
-ghost use Rattle.ss_app.specs.Outcome.{Says, Made, Traced, Inited, Ran, RefusesScript, RefusesStore, RefusesInit, IsValidTrace, HasNoStore, AsksFor};
+ghost use Rattle.ss_app.specs.Opening.{HasNoStore};
+ghost use Rattle.ss_app.specs.Outcome.{Says, Made, Traced, Inited, Ran, RefusesScript, RefusesStore, RefusesInit, IsValidTrace, AsksFor};
 ghost use Rattle.ss_app.specs.Printing.{PrintsUnless};
 ghost use Rattle.ss_app.specs.Progress.{Progress, Stepped, Story};
-ghost use Rattle.ss_app.specs.Room.{OfFullLog, doubt_after, end_after};
+ghost use Rattle.ss_app.specs.Room.{OfFullLog, HadRoom, doubt_after, end_after, reaches_disk};
 ghost use Rattle.ss_app.specs.Run.{client_views, resolved};
 ghost use Rattle.ss_app.specs.Stands.{Serves};
 ghost use Rattle.ss_app.specs.Text.{entry_text};
@@ -53,7 +54,10 @@ pub struct Exit<D> {
 /// line for each. `--help` and `--version` write what they name. A word that is not of the form is found before anything else, a
 /// source that fails or holds more than `SCRIPT_BYTES` before a bad line, a bad line before the disk is touched, and what is wrong
 /// with the store before any call is made. A call that fails, for want of memory, of room or of a working disk, is an entry like
-/// any other. Statuses:
+/// any other.
+///
+/// `trace` changes no file but that of the hot log, and none before its first call. `init` changes none where there is a store;
+/// where there is none, files may be emptied on status 3, and the store may be made on 5 and 6. Statuses:
 ///
 /// | status | why |
 /// |---|---|
@@ -212,10 +216,12 @@ fn make_call<D: Disk>(
     ensures after { (s : State) → IsTrue D.told → Serves D.Disk disk.old store.old.hot store.old.views s → Serves D.Disk disk.new store.new.hot store.new.views (After s result.call result.answer) }
     ensures end { (s : State) → IsTrue D.told → Serves D.Disk disk.old store.old.hot store.old.views s → store.new.hot.log.end ≡ end_after s store.old.hot.log.end result.call result.answer }
     ensures room { OfFullLog (λ file need room. (file ≡ 0) × (room ≡ store.old.hot.settings.limit - 1 - store.old.hot.log.end)) result.answer }
+    ensures fits { (s : State) → IsTrue D.told → Serves D.Disk disk.old store.old.hot store.old.views s → HadRoom s store.old.hot.log.end result.call result.answer }
     ensures known { store.new.hot.log.end + 1 ≤ D.known disk.new 0 }
     ensures fault { IsTrue (is_disk_fault result.answer) → DiskRose (D.faults disk.old) (D.faults disk.new) }
     ensures settings { store.new.hot.settings ≡ store.old.hot.settings }
     ensures doubt { doubt_after store.old.hot.log.unsure result.call result.answer ≡ false → store.new.hot.log.unsure ≡ false }
+    ensures still { reaches_disk result.call result.answer ≡ false → disk.new ≡ disk.old }
     ensures touches { Touches D.Disk 0 disk.old disk.new }
 {
     let Line { client, line, call } = line;

@@ -16,8 +16,8 @@ ghost use Rattle.ss_model.specs.declared.call.Answer.TheVariants as answer;
 ghost use Rattle.ss_model.specs.declared.call.PutReply.TheVariants as put;
 ghost use Rattle.ss_model.specs.declared.call.GetReply.TheVariants as get;
 ghost use Rattle.ss_app.specs.Stands.{StandsFor, Shows, Serves, views_below};
-ghost use Rattle.ss_app.specs.Room.{OfFullLog, end_after, doubt_after, put_doubt, get_doubt};
-ghost use Rattle.ss_app.specs.Opening.{open_fault_of, IsInitFault};
+ghost use Rattle.ss_app.specs.Room.{OfFullLog, HadRoom, end_after, doubt_after, put_doubt, get_doubt, reaches_disk, put_reaches, get_reaches};
+ghost use Rattle.ss_app.specs.Opening.{open_fault_of, HasNoStore, AreEmptyBeside, IsInitFault};
 ghost use Rattle.ss_app.specs.Puts.{IsReady, IsRefusal, IsNoneReply, IsAddReply, KeepsAdded, added_bytes};
 
 use crate::blocks::{body_bytes, first_fault, parcel_bytes};
@@ -37,7 +37,8 @@ pub enum OpenFault {
     NoStore,
     /// Settings are committed on the disk already.
     StoreExists,
-    /// A file is damaged: the record whose gate is at `at` is the first at fault.
+    /// A file is damaged: `at` is the place of the gate of the first record at fault; or 14, that of the settings, where no
+    /// record is at fault and more blocks are hot than the settings allow.
     Damaged { file: u8, at: u64 },
     /// The disk's count of faults rose.
     DiskFault,
@@ -70,12 +71,14 @@ fn open_fault(fault: StoreFault) -> OpenFault
 
 /// Makes a store with these settings, in which nothing is kept.
 ///
-/// First `StoreExists`, where settings are committed on the disk already; then `DiskFault`, after which files may be emptied.
+/// First `StoreExists`, where settings are committed on the disk already; each of the other faults may stand in its place. Where
+/// there is a store all is left as it was, and else files may be emptied before a fault.
 pub fn init<D: Disk>(alloc: Global, disk: &mut D, config: &Config) -> Result<(), OpenFault>
     requires { SettingsFit config.now }
-    ensures made { IsTrue D.told → OnOk result ((left : Files) → D.image disk.new (D.moment disk.new) left → (end : ℕ) × StandsFor (left 0) end (empty_state config.now)) }
+    ensures made { IsTrue D.told → OnOk result ((left : Files) → D.image disk.new (D.moment disk.new) left → ((end : ℕ) × StandsFor (left 0) end (empty_state config.now)) × AreEmptyBeside config.now.limit left) }
     ensures exists { result ≡ Err OpenFault.StoreExists → IsTrue D.told → (settings : _) × HasSettings (D.files disk.old 0) settings }
-    ensures not_there { IsTrue D.told → OnOk result ((settings : _) → HasSettings (D.files disk.old 0) settings → ⊥) }
+    ensures not_there { IsTrue D.told → OnOk result (HasNoStore (D.files disk.old 0)) }
+    ensures kept { IsTrue D.told → HasNoStore (D.files disk.old 0) ⊎ Goes D.Disk Same disk.old disk.new }
     ensures errors { IfErr result IsInitFault }
     ensures fault { result ≡ Err OpenFault.DiskFault → Rose (D.faults disk.old) (D.faults disk.new) }
 {
@@ -95,6 +98,7 @@ pub fn init<D: Disk>(alloc: Global, disk: &mut D, config: &Config) -> Result<(),
 // Makes each file but that of the hot log an empty log, so that nothing of an older store is left there.
 fn empty_files<D: Disk>(disk: &mut D, limit: u64) -> Result<(), OpenFault>
     requires { (1 ≤ limit) × (limit ≤ 2 ^ 40) }
+    ensures emptied { IsTrue D.told → OnOk result ((left : Files) → D.image disk.new (D.moment disk.new) left → AreEmptyBeside limit left) }
     ensures err { OnErr result (result ≡ Err OpenFault.DiskFault) }
     ensures cause { HasCause (D.faults disk.old) (D.faults disk.new) result }
 {
@@ -114,7 +118,7 @@ impl Store {
         ensures serves { IsTrue D.told → IfOk result (λ store. (s : State) × StandsFor (D.files disk.old 0) store.hot.log.end s × Serves D.Disk disk.new store.hot store.views s) }
         ensures known { IfOk result (λ store. store.hot.log.end + 1 ≤ D.known disk.new 0) }
         ensures sure { IfOk result (λ store. store.hot.log.unsure ≡ false) }
-        ensures no_store { result ≡ Err OpenFault.NoStore → IsTrue D.told → (settings : _) → HasSettings (D.files disk.old 0) settings → ⊥ }
+        ensures no_store { result ≡ Err OpenFault.NoStore → IsTrue D.told → HasNoStore (D.files disk.old 0) }
         ensures damaged { (file at : ℕ) → result ≡ Err (OpenFault.Damaged file at) → (file ≡ 0) × (IsTrue D.told → IsDamagedHalf (D.files disk.old 0) at) }
         ensures opens { result ≡ Err OpenFault.StoreExists → ⊥ }
         ensures fault { result ≡ Err OpenFault.DiskFault → Rose (D.faults disk.old) (D.faults disk.new) }
@@ -134,10 +138,12 @@ impl Store {
         ensures after { (s : State) → IsTrue D.told → Serves D.Disk disk.old self.old.hot self.old.views s → Serves D.Disk disk.new self.new.hot self.new.views (After s call.now result) }
         ensures end { (s : State) → IsTrue D.told → Serves D.Disk disk.old self.old.hot self.old.views s → self.new.hot.log.end ≡ end_after s self.old.hot.log.end call.now result }
         ensures room { OfFullLog (λ file need room. (file ≡ 0) × (room ≡ self.old.hot.settings.limit - 1 - self.old.hot.log.end)) result }
+        ensures fits { (s : State) → IsTrue D.told → Serves D.Disk disk.old self.old.hot self.old.views s → HadRoom s self.old.hot.log.end call.now result }
         ensures known { self.new.hot.log.end + 1 ≤ D.known disk.new 0 }
         ensures fault { IsTrue (is_disk_fault result) → Rose (D.faults disk.old) (D.faults disk.new) }
         ensures settings { self.new.hot.settings ≡ self.old.hot.settings }
         ensures doubt { doubt_after self.old.hot.log.unsure call.now result ≡ false → self.new.hot.log.unsure ≡ false }
+        ensures still { reaches_disk call.now result ≡ false → disk.new ≡ disk.old }
         ensures touches { Touches D.Disk 0 disk.old disk.new }
     {
         match call {
@@ -166,10 +172,12 @@ impl Store {
         ensures after { (s : State) → IsTrue D.told → Serves D.Disk disk.old self.old.hot self.old.views s → Serves D.Disk disk.new self.new.hot self.new.views (after_put s parcel.now result) }
         ensures end { (s : State) → IsTrue D.told → Serves D.Disk disk.old self.old.hot self.old.views s → self.new.hot.log.end ≡ end_after s self.old.hot.log.end (call_kind.Put view parcel.now) (answer.Put result) }
         ensures room { OfFullLog (λ file need room. (file ≡ 0) × (room ≡ self.old.hot.settings.limit - 1 - self.old.hot.log.end)) (answer.Put result) }
+        ensures fits { (s : State) → IsTrue D.told → Serves D.Disk disk.old self.old.hot self.old.views s → HadRoom s self.old.hot.log.end (call_kind.Put view parcel.now) (answer.Put result) }
         ensures known { self.new.hot.log.end + 1 ≤ D.known disk.new 0 }
         ensures fault { IsTrue (is_disk_fault (answer.Put result)) → Rose (D.faults disk.old) (D.faults disk.new) }
         ensures settings { self.new.hot.settings ≡ self.old.hot.settings }
         ensures doubt { put_doubt self.old.hot.log.unsure result ≡ false → self.new.hot.log.unsure ≡ false }
+        ensures still { put_reaches result ≡ false → disk.new ≡ disk.old }
         ensures touches { Touches D.Disk 0 disk.old disk.new }
     {
         if let Some(refusal) = self.put_refusal(view, parcel) {
@@ -194,6 +202,7 @@ impl Store {
         ensures serves { (s : State) → IsTrue D.told → Serves D.Disk disk.old self.old.hot self.old.views s → Serves D.Disk disk.new self.new.hot self.new.views s }
         ensures same { SameButDoubt self.old.hot self.new.hot × (self.new.views ≡ self.old.views) }
         ensures doubt { put_doubt self.old.hot.log.unsure result ≡ false → self.new.hot.log.unsure ≡ false }
+        ensures still { put_reaches result ≡ false → disk.new ≡ disk.old }
         ensures touches { Touches D.Disk 0 disk.old disk.new }
     {
         let rows = self.hot.count();
@@ -220,6 +229,7 @@ impl Store {
         ensures fault { result ≡ put.DiskFault → Rose (D.faults disk.old) (D.faults disk.new) }
         ensures settings { self.new.hot.settings ≡ self.old.hot.settings }
         ensures doubt { put_doubt self.old.hot.log.unsure result ≡ false → self.new.hot.log.unsure ≡ false }
+        ensures still { put_reaches result ≡ false → disk.new ≡ disk.old }
         ensures touches { Touches D.Disk 0 disk.old disk.new }
     {
         let rows = self.hot.count() + fresh.len() as u64;
@@ -252,6 +262,7 @@ impl Store {
         ensures same { SameButDoubt self.old.hot self.new.hot × (self.new.views ≡ self.old.views) }
         ensures fault { result ≡ get.DiskFault → Rose (D.faults disk.old) (D.faults disk.new) }
         ensures doubt { get_doubt self.old.hot.log.unsure cid.now result ≡ false → self.new.hot.log.unsure ≡ false }
+        ensures still { get_reaches cid.now result ≡ false → disk.new ≡ disk.old }
         ensures touches { Touches D.Disk 0 disk.old disk.new }
     {
         if !self.is_open(view) {

@@ -1,3 +1,5 @@
+ghost use Rattle.std.specs.Prelude.{◌<◌};
+
 mod crash;
 mod damage;
 mod disk;
@@ -94,12 +96,18 @@ fn answers(alloc: Global, written: &str) -> Result<String, Fail> {
     Ok(answers)
 }
 
-// The bytes of file 0.
-fn hot_log(alloc: Global, disk: &mut MemoryDisk) -> Result<Vec<u8>, Fail> {
-    let size = disk.size(0)?.min(1 << 20);
+// The bytes of a file.
+fn content(alloc: Global, disk: &mut MemoryDisk, file: u8) -> Result<Vec<u8>, Fail>
+    requires { file < 6 }
+{
+    let size = disk.size(file)?.min(1 << 20);
     let mut bytes = vec![in alloc; 0u8; size as usize]?;
-    disk.read(0, 0, bytes.as_mut_slice())?;
+    disk.read(file, 0, bytes.as_mut_slice())?;
     Ok(bytes)
+}
+
+fn hot_log(alloc: Global, disk: &mut MemoryDisk) -> Result<Vec<u8>, Fail> {
+    content(alloc, disk, 0)
 }
 
 // A script that reads three blocks.
@@ -109,8 +117,13 @@ fn reads(alloc: Global) -> Result<String, Fail> {
 
 // The answers of a run of that script, where these of the three are kept.
 fn found(alloc: Global, kept: &[bool]) -> Result<String, Fail> {
+    found_as(alloc, kept, ["616263", "-", LINK_BYTES])
+}
+
+// The same where the blocks have these bytes.
+fn found_as(alloc: Global, kept: &[bool], blocks: [&str; 3]) -> Result<String, Fail> {
     let mut told = String::from_str(alloc, "opened 0")?;
-    for (kept, block) in kept.iter().zip(["616263", "-", LINK_BYTES]) {
+    for (kept, block) in kept.iter().zip(blocks) {
         if *kept {
             told.push_str("; found ")?;
             told.push_str(block)?;
@@ -279,6 +292,28 @@ fn ends_that_fail(rt: HostRuntime) -> Result<(), Fail> {
             "at put {call}"
         );
     }
+    Ok(())
+}
+
+#[test]
+fn calls_go_on_when_the_sink_fails(rt: HostRuntime) -> Result<(), Fail> {
+    let disk = MemoryDisk::new(rt.alloc())?;
+    let ran = run_failing(rt.alloc(), "init mode=discard", "", disk, Failing::Put(0))?;
+    assert_eq!(rt; (ran.status, ran.written.as_str()), (5, ""));
+    // No line is written, and the block is put.
+    let script = format!(in rt.alloc(); "0 open\n0 put 0 {ABC} 616263\n")?;
+    let ran = run_failing(
+        rt.alloc(),
+        "trace",
+        script.as_str(),
+        ran.disk,
+        Failing::Put(0),
+    )?;
+    assert_eq!(rt; (ran.status, ran.written.as_str()), (5, ""));
+    assert_eq!(rt;
+        reading(rt.alloc(), ran.disk)?,
+        (0, found(rt.alloc(), &[true, false, false])?)
+    );
     Ok(())
 }
 

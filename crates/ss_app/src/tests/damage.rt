@@ -89,20 +89,50 @@ fn sound_answers(alloc: Global) -> Result<Vec<(u8, String)>, Fail> {
     Ok(sound)
 }
 
+// A block's digits where this byte of the log is another and lies in the block, whose bytes begin at `start`.
+fn with_byte(
+    alloc: Global,
+    digits: &str,
+    start: usize,
+    at: usize,
+    other: u8,
+) -> Result<Option<String>, Fail> {
+    let place = at.saturating_sub(start).saturating_mul(2);
+    if at < start || place >= digits.len() {
+        return Ok(None);
+    }
+    let front = digits.get(..place).unwrap_or("");
+    let behind = digits.get(place + 2..).unwrap_or("");
+    Ok(Some(format!(in alloc; "{front}{other:02x}{behind}")?))
+}
+
+// What a run of `reads` tells where this byte of the log of `stored` is another and lies in a block: the log has no checksum, so
+// the block is answered as it stands.
+fn changed_block(alloc: Global, at: usize, other: u8) -> Result<Option<String>, Fail> {
+    let first = with_byte(alloc, "616263", 102, at, other)?;
+    let third = with_byte(alloc, LINK_BYTES, 201, at, other)?;
+    if first.is_none() && third.is_none() {
+        return Ok(None);
+    }
+    let first = first.as_deref().unwrap_or("616263");
+    let third = third.as_deref().unwrap_or(LINK_BYTES);
+    Ok(Some(found_as(alloc, &[true; 3], [first, "-", third])?))
+}
+
 #[test]
-fn a_changed_byte_gives_no_wrong_block(rt: HostRuntime) -> Result<(), Fail> {
+fn a_changed_byte_gives_what_the_file_stands_for(rt: HostRuntime) -> Result<(), Fail> {
     let mut disk = stored(rt.alloc())?;
     let sound = sound_answers(rt.alloc())?;
     let log = hot_log(rt.alloc(), &mut disk)?;
     assert_eq!(rt; log.len(), 244);
     for (at, byte) in log.iter().enumerate() {
-        // The bytes of the blocks are not looked at.
-        if (102..105).contains(&at) || (201..243).contains(&at) {
-            continue;
-        }
         for other in [*byte ^ 1, 0xa5] {
             let answer = reading(rt.alloc(), changed(rt.alloc(), &disk, at as u64, &[other])?)?;
-            assert!(rt; sound.contains(&answer), "{other} at {at}");
+            let is_sound = match changed_block(rt.alloc(), at, other)? {
+                Some(told) => answer == (0, told),
+                None => sound.contains(&answer),
+            };
+            assert!(rt; is_sound, "{other} at {at}");
         }
     }
     Ok(())

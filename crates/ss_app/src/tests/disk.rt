@@ -26,6 +26,24 @@ fn a_store_is_made_once(rt: HostRuntime) -> Result<(), Fail> {
 }
 
 #[test]
+fn a_new_store_has_no_old_records(rt: HostRuntime) -> Result<(), Fail> {
+    let mut disk = MemoryDisk::new(rt.alloc())?;
+    for file in 1..6u8 {
+        disk.write(file, 0, b"\xa5\0\0\0\x01\0\0")?;
+    }
+    for (status, written) in [(0, "store made\n"), (7, "error: store exists\n")] {
+        let ran = run(rt.alloc(), "init mode=discard", "", disk)?;
+        assert_eq!(rt; (ran.status, ran.written.as_str()), (status, written));
+        disk = ran.disk;
+        for file in 1..6u8 {
+            let log = content(rt.alloc(), &mut disk, file)?;
+            assert_eq!(rt; log.as_slice(), b"\0\0\0\0\x01\0\0".as_slice());
+        }
+    }
+    Ok(())
+}
+
+#[test]
 fn help_and_version_touch_no_disk(rt: HostRuntime) -> Result<(), Fail> {
     for (words, start) in [
         ("--help", "splitstore - "),

@@ -8,4 +8,4 @@ returns-in-Ok g c = made_store g.D.Disk _ _ _ _ _ _ _ _ c.in-Ok.ensures.not_ther
 pub returns-in-Err : goal.returns-in-Err
 returns-in-Err g c =
     let said = rw c.from.ensures at c.finish.ensures in
-    made_none g.D.Disk _ _ _ _ _ _ _ _ c.in-Err.fault c.in-Err.ensures.errors (λ is. c.init.ensures.exists (c.in-Err.is ∙ ap Err is)) (λ is. c.init.ensures.fault (c.in-Err.is ∙ ap Err is)) said
+    made_none g.D.Disk _ _ _ _ _ _ _ _ c.in-Err.fault c.in-Err.ensures.errors (λ is. c.init.ensures.exists (c.in-Err.is ∙ ap Err is)) (λ is. c.init.ensures.fault (c.in-Err.is ∙ ap Err is)) c.init.ensures.kept said

@@ -1,32 +1,33 @@
-use Rattle.std.proofs.Common.{refl, arith, ◌∙◌, ap, Err}
+use Rattle.std.proofs.Common.{refl, ◌∙◌, ap, Err}
 use Rattle.ss_app.proofs.Apart.{stands_apart}
 use Rattle.ss_app.proofs.Clients.{script_below}
 use Rattle.ss_app.proofs.Endings.{no_memory, read_fault, too_long, script_refused, store_refused, asks_for, traced, traced_refused}
 use Rattle.ss_app.proofs.Steps.{begun_story, at_most}
+use Rattle.ss_app.proofs.Still.{same_disk}
 use Rattle.ss_app.specs.declared.TheConstants.{SCRIPT_BYTES}
 use Rattle.ss_app.proofs.run.trace.Goals as goal
 
 pub returns-in-Err-Read : goal.returns-in-Err-Read
-returns-in-Err-Read g c = read_fault g.D.Disk _ _ _ _ _ _ _ _ _ _ _ (omega arith) (c.read_all.ensures.read_fault (c.in-Err-Read.is ∙ ap Err c.in-Err-Read.field-0-is)) c.finish.ensures
+returns-in-Err-Read g c = read_fault g.D.Disk _ _ _ _ _ _ _ _ _ _ _ (same_disk g.D.Disk c.args.disk.now) (c.read_all.ensures.read_fault (c.in-Err-Read.is ∙ ap Err c.in-Err-Read.field-0-is)) c.finish.ensures
 
 pub returns-in-Err-TooLong : goal.returns-in-Err-TooLong
-returns-in-Err-TooLong g c = too_long g.D.Disk _ _ _ _ _ _ _ _ _ _ _ (omega arith) (c.read_all.ensures.too_long (c.in-Err-TooLong.is ∙ ap Err c.in-Err-TooLong.field-0-is)) c.finish-in-Err-TooLong.ensures
+returns-in-Err-TooLong g c = too_long g.D.Disk _ _ _ _ _ _ _ _ _ _ _ (same_disk g.D.Disk c.args.disk.now) (c.read_all.ensures.too_long (c.in-Err-TooLong.is ∙ ap Err c.in-Err-TooLong.field-0-is)) c.finish-in-Err-TooLong.ensures
 
 pub returns-in-Err-NoMemory : goal.returns-in-Err-NoMemory
-returns-in-Err-NoMemory g c = no_memory g.D.Disk _ _ _ _ _ _ _ _ _ _ _ (omega arith) c.finish-in-Err-NoMemory.ensures
+returns-in-Err-NoMemory g c = no_memory g.D.Disk _ _ _ _ _ _ _ _ _ _ _ (same_disk g.D.Disk c.args.disk.now) c.finish-in-Err-NoMemory.ensures
 
 pub returns-in-Err : goal.returns-in-Err
 returns-in-Err g c =
     let took = rw (← c.as_slice.ensures.value) at c.in-Ok.ensures.all.0 in
     let said = rw c.from.ensures at c.finish-in-Err.ensures in
-    script_refused g.D.Disk _ _ _ _ _ _ _ _ _ _ _ c.as_slice.result.now c.in-Err.fault (omega arith) took c.in-Ok.ensures.all.1 (at_most _ _ SCRIPT_BYTES c.as_slice.ensures.len c.in-Ok.ensures.within) c.in-Err.ensures said
+    script_refused g.D.Disk _ _ _ _ _ _ _ _ _ _ _ c.as_slice.result.now c.in-Err.fault (same_disk g.D.Disk c.args.disk.now) took c.in-Ok.ensures.all.1 (at_most _ _ SCRIPT_BYTES c.as_slice.ensures.len c.in-Ok.ensures.within) c.in-Err.ensures said
 
 pub returns-in-Err-open : goal.returns-in-Err-open
 returns-in-Err-open g c =
     let took = rw (← c.as_slice.ensures.value) at c.in-Ok.ensures.all.0 in
     let said = rw c.from-in-Err-open.ensures at c.finish-in-Err-open.ensures in
     let asks = asks_for _ _ c.as_slice.result.now _ took c.in-Ok.ensures.all.1 (at_most _ _ SCRIPT_BYTES c.as_slice.ensures.len c.in-Ok.ensures.within) c.in-Ok-read_script.ensures in
-    store_refused g.D.Disk _ _ _ _ _ _ _ _ _ _ _ c.in-Err-open.fault c.«open».ensures.goes.faults (_, asks) stands_apart (λ is. c.«open».ensures.no_store (c.in-Err-open.is ∙ ap Err is)) (λ file at is. c.«open».ensures.damaged file at (c.in-Err-open.is ∙ ap Err is)) (λ is. c.«open».ensures.opens (c.in-Err-open.is ∙ ap Err is)) (λ is. c.«open».ensures.fault (c.in-Err-open.is ∙ ap Err is)) said
+    store_refused g.D.Disk _ _ _ _ _ _ _ _ _ _ _ c.in-Err-open.fault c.«open».ensures.goes (_, asks) stands_apart (λ is. c.«open».ensures.no_store (c.in-Err-open.is ∙ ap Err is)) (λ file at is. c.«open».ensures.damaged file at (c.in-Err-open.is ∙ ap Err is)) (λ is. c.«open».ensures.opens (c.in-Err-open.is ∙ ap Err is)) (λ is. c.«open».ensures.fault (c.in-Err-open.is ∙ ap Err is)) said
 
 pub make_calls-calls-requires-clause-clients : goal.make_calls-calls-requires-clause-clients
 make_calls-calls-requires-clause-clients g c = script_below c.as_slice.result.now _ c.in-Ok-read_script.ensures

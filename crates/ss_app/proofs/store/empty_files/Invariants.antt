@@ -1,5 +1,11 @@
-use Rattle.std.proofs.Common.{◌≡◌}
+use Rattle.std.proofs.Common.{◌≡◌, ◌<◌, ◌≤◌, ℕ, []}
+use Rattle.std.specs.Prelude.{IsTrue}
+use Rattle.ss_disk.specs.Disk.{Files}
+use Rattle.ss_gatelog.specs.Log.{HasList}
 use Rattle.ss_app.proofs.store.empty_files.Given as goal
 
 abbrev pub invariant-loop-file : goal.invariant-loop-file
-invariant-loop-file g l = g.D.Disk.faults l.disk ≡ g.D.Disk.faults l.fn.disk
+invariant-loop-file g l = record {
+  faults : g.D.Disk.faults l.disk ≡ g.D.Disk.faults l.fn.disk;
+  emptied : IsTrue g.D.Disk.told → (left : Files) → g.D.Disk.image l.disk (g.D.Disk.moment l.disk) left → (file : ℕ) → 1 ≤ file → file < l.file → HasList l.limit (left file) [];
+}

@@ -1,4 +1,5 @@
 use Rattle.ss_app.proofs.Refusals.{refusal_is_lawful}
+use Rattle.ss_app.proofs.Rooms.{add_had_room, none_had_room, refused_had_room}
 use Rattle.ss_app.proofs.Serving.{same_end, shows}
 use Rattle.ss_app.proofs.StorePuts.{agrees, new_fits, new_short, new_absent, added_lawful, none_lawful, put_serves, none_serves, put_end, none_end}
 use Rattle.ss_app.proofs.store.Store.put.Goals as goal
@@ -86,3 +87,20 @@ returns-in-Some-fresh-clause-end g c = λ s told serves.
     let e = rw c.in-Some-fresh.is at c.in-Ok.ensures in
     put_end c.args.self.now.hot c.put_fresh-in-Some-fresh.new.self.hot.log.end s c.args.view c.args.parcel.now c.in-Some-fresh.fresh c.put_fresh-in-Some-fresh.result
     (agrees c.args.self.now.hot serves.records s serves.keeps.tells serves.state) e.0 e.1 c.put_fresh-in-Some-fresh.ensures.end
+
+pub returns-in-Some-clause-fits : goal.returns-in-Some-clause-fits
+returns-in-Some-clause-fits g c = λ s told serves. refused_had_room s c.args.self.now.hot.log.end c.args.view c.args.parcel.now c.in-Some.refusal c.in-Some.ensures.ready
+
+pub returns-in-None-clause-fits : goal.returns-in-None-clause-fits
+returns-in-None-clause-fits g c = λ s told serves.
+    none_had_room c.args.self.now.hot s c.args.view c.args.parcel.now c.put_nothing.result (agrees c.args.self.now.hot serves.records s serves.keeps.tells serves.state) (rw c.in-None.is at c.in-Ok.ensures)
+
+pub returns-in-All-clause-fits : goal.returns-in-All-clause-fits
+returns-in-All-clause-fits g c = λ s told serves.
+    let e = rw c.in-All.is at c.in-Ok.ensures in
+    add_had_room c.args.self.now.hot s c.args.view c.args.parcel.now c.args.parcel.now c.put_fresh.result (agrees c.args.self.now.hot serves.records s serves.keeps.tells serves.state) e.0 e.1 c.put_fresh.ensures.reply
+
+pub returns-in-Some-fresh-clause-fits : goal.returns-in-Some-fresh-clause-fits
+returns-in-Some-fresh-clause-fits g c = λ s told serves.
+    let e = rw c.in-Some-fresh.is at c.in-Ok.ensures in
+    add_had_room c.args.self.now.hot s c.args.view c.args.parcel.now c.in-Some-fresh.fresh c.put_fresh-in-Some-fresh.result (agrees c.args.self.now.hot serves.records s serves.keeps.tells serves.state) e.0 e.1 c.put_fresh-in-Some-fresh.ensures.reply

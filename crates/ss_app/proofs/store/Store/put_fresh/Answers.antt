@@ -40,6 +40,14 @@ returns-in-Err-LogFull-clause-reply g c =
       full.3,
     )
 
+pub returns-in-Err-LogFull-clause-still : goal.returns-in-Err-LogFull-clause-still
+returns-in-Err-LogFull-clause-still g c = λ still.
+    let e = c.in-Err-LogFull in
+    let full = e.ensures.full e.file e.need e.room (ap Err e.field-0-is) in
+    let end = same_end c.args.self.now.hot c.settle.new.self c.settle.ensures.same in
+    let limit = same_limit c.args.self.now.hot c.settle.new.self c.settle.ensures.same in
+    absurd (omega (arith, full.1, full.2, full.3, record_takes c.args.fresh.now, end, limit, c.room-room.ensures.room, c.body_bytes-need.ensures, c.if-need-room.false))
+
 pub returns-in-Err-LogFull-clause-kept : goal.returns-in-Err-LogFull-clause-kept
 returns-in-Err-LogFull-clause-kept g c = λ records others told keeps.
     let sure = when_ok c.settle.result (c.settle.new.self.log.unsure ≡ false) (sym c.is_err.ensures.value ∙ c.if-is_err.false) c.settle.ensures.settled in

@@ -12,6 +12,8 @@ use Rattle.ss_disk.specs.Disk.{Same}
 use Rattle.ss_disk.specs.Calls.{Goes}
 use Rattle.ss_app.specs.declared.TheConstants.{SCRIPT_BYTES}
 use Rattle.ss_app.specs.declared.script.Line.{Line}
+use Rattle.ss_app.specs.declared.input.InputFault.{InputFault}
+use Rattle.ss_app.specs.declared.input.InputFault.TheVariants as input
 use Rattle.ss_app.specs.declared.script.ScriptFault.{ScriptFault}
 use Rattle.ss_app.specs.declared.script.ScriptFault.TheVariants.{Bad}
 use Rattle.ss_app.specs.declared.script.ScriptFault.TheVariants as script_fault
@@ -20,7 +22,7 @@ use Rattle.ss_app.specs.declared.ending.Ending.TheVariants.{Done, NoMemory, BadS
 use Rattle.ss_app.specs.declared.ending.Ending.TheVariants as ends
 use Rattle.ss_app.specs.declared.store.OpenFault.{OpenFault}
 use Rattle.ss_app.specs.declared.store.OpenFault.TheVariants as opening
-use Rattle.ss_app.specs.Ending.{line_of, status_of, ending_of, ending_of_open}
+use Rattle.ss_app.specs.Ending.{line_of, status_of, ending_of, ending_of_input, ending_of_open}
 use Rattle.ss_app.specs.Input.{IsTooLong}
 use Rattle.ss_app.specs.Opening.{HasNoStore}
 use Rattle.ss_app.specs.Run.{InOrder}
@@ -87,14 +89,21 @@ module _ {D : Type 0} (disk : Ghosts D) (was is : D) (left behind : Option (List
     said = said;
   }
 
-  pub no_memory : Goes disk Same was is → Says old new had has (line_of NoMemory) 3 status → Traced disk was is left behind before now old new had has status
+  no_memory : Goes disk Same was is → Says old new had has (line_of NoMemory) 3 status → Traced disk was is left behind before now old new had has status
   no_memory goes said = no_call NoMemory goes ([], tt, λ script told. inl refl) (λ script lines valid. inl refl) said
 
-  pub read_fault : Goes disk Same was is → Rose before now → Says old new had has (line_of ends.ReadFault) 4 status → Traced disk was is left behind before now old new had has status
+  read_fault : Goes disk Same was is → Rose before now → Says old new had has (line_of ends.ReadFault) 4 status → Traced disk was is left behind before now old new had has status
   read_fault goes rose said = no_call ends.ReadFault goes (refl, rose) (λ script lines valid. absurd (valid.source rose)) said
 
-  pub too_long : Goes disk Same was is → IsTooLong left → Says old new had has (line_of ends.TooLong) 13 status → Traced disk was is left behind before now old new had has status
+  too_long : Goes disk Same was is → IsTooLong left → Says old new had has (line_of ends.TooLong) 13 status → Traced disk was is left behind before now old new had has status
   too_long goes long said = no_call ends.TooLong goes (refl, long) (λ script lines valid. let more = long script valid.told in let most = valid.asks.0 in absurd (omega (arith, more, most))) said
+
+  -- the source is not read to its end
+  pub input_refused : (fault : InputFault) → Goes disk Same was is → (fault ≡ input.Read → Rose before now) → (fault ≡ input.TooLong → IsTooLong left)
+      → Says old new had has (line_of (ending_of_input fault)) (status_of (ending_of_input fault)) status → Traced disk was is left behind before now old new had has status
+  input_refused input.Read goes rose long said = read_fault goes (rose refl) said
+  input_refused input.TooLong goes rose long said = too_long goes (long refl) said
+  input_refused input.NoMemory goes rose long said = no_memory goes said
 
   -- the script is not read
   pub script_refused : (bytes : List ℕ) (fault : ScriptFault) → Goes disk Same was is

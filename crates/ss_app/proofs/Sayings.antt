@@ -1,10 +1,9 @@
 -- What is said of a text, and of a store that is made.
-use Rattle.std.proofs.Common.{◌≡◌, ◌⊎◌, inl, inr, true, false, ℕ, List, [], Option, Result, Ok, Err, refl, sym, subst, true≢false}
+use Rattle.std.proofs.Common.{◌≡◌, ◌⊎◌, inl, ℕ, List, [], Option, refl, sym, subst}
 use Rattle.std.specs.Prelude.{IsTrue, codes}
-use Rattle.std.specs.Result.{is_err}
 use Rattle.std.proofs.lemmas.List.{append-nil}
-use Rattle.ss_io.specs.Causes.{Rose, HasCause}
-use Rattle.ss_io.specs.Written.{PutAppends}
+use Rattle.std.specs.Io.KnownBytes.{Appends}
+use Rattle.ss_io.specs.Causes.{Rose}
 use Rattle.ss_disk.specs.declared.disk.Disk.{Ghosts}
 use Rattle.ss_disk.specs.Disk.{Same}
 use Rattle.ss_disk.specs.Calls.{Goes}
@@ -18,15 +17,9 @@ use Rattle.ss_app.specs.Opening.{HasNoStore, IsInitFault}
 use Rattle.ss_app.specs.Outcome.{Says, Inited, IsNewStore}
 use Rattle.ss_app.proofs.Endings.{says_behind}
 
--- the sink refused a text
-pub says_err : {E : Type 0} (r : Result (Unit {0}) E) (old new : Option (List ℕ)) (had has : ℕ) (bytes : List ℕ) (own : ℕ) → is_err r ≡ true → PutAppends old new r bytes → HasCause had has r → Says old new had has bytes own 5
-says_err (Ok x) old new had has bytes own refused put cause = absurd (true≢false (sym refused))
-says_err (Err x) old new had has bytes own refused put cause = inr (refl, cause.failed, put)
-
--- it took the text, and nothing more is said
-pub says_ok : {E : Type 0} (r : Result (Unit {0}) E) (old mid new : Option (List ℕ)) (had held has : ℕ) (bytes : List ℕ) (status : ℕ) → is_err r ≡ false → PutAppends old mid r bytes → HasCause had held r → Says mid new held has [] 0 status → Says old new had has bytes 0 status
-says_ok (Err x) old mid new had held has bytes status taken put cause said = absurd (true≢false taken)
-says_ok (Ok x) old mid new had held has bytes status taken put cause said = subst (λ b. Says old new had has b 0 status) (append-nil bytes) (says_behind old mid new had held has bytes [] 0 status put cause.kept said)
+-- the sink took a text, and nothing more is said
+pub says_text : (old mid new : Option (List ℕ)) (had held has : ℕ) (bytes : List ℕ) (status : ℕ) → Appends old mid bytes → held ≡ had → Says mid new held has [] 0 status → Says old new had has bytes 0 status
+says_text old mid new had held has bytes status wrote sound said = subst (λ b. Says old new had has b 0 status) (append-nil bytes) (says_behind old mid new had held has bytes [] 0 status wrote sound said)
 
 module _ {D : Type 0} (disk : Ghosts D) (was is : D) (settings : Settings) (old new : Option (List ℕ)) (had has status : ℕ) where
   -- a store is made

@@ -1,7 +1,10 @@
 -- The status of each ending of a run, and the line that tells why.
-use Rattle.std.specs.Prelude.{ℕ, List, [], ◌∷◌, ◌++◌, codes}
+use Rattle.std.specs.Prelude.{ℕ, List, [], ◌∷◌, ◌++◌, codes, Result, Ok, Err}
 use Rattle.std.specs.List.{flat_map}
 use Rattle.std.specs.Fmt.{decimal}
+use Rattle.ss_io.specs.declared.failed.Failed.{Failed}
+use Rattle.ss_app.specs.declared.input.InputFault.{InputFault}
+use Rattle.ss_app.specs.declared.input.InputFault.TheVariants as input
 use Rattle.ss_app.specs.declared.script.ScriptFault.{ScriptFault}
 use Rattle.ss_app.specs.declared.script.ScriptFault.TheVariants as script
 use Rattle.ss_app.specs.declared.script.ScriptKind.{ScriptKind}
@@ -10,6 +13,12 @@ use Rattle.ss_app.specs.declared.ending.Ending.{Ending}
 use Rattle.ss_app.specs.declared.ending.Ending.TheVariants.{Done, Usage, NoMemory, ReadFault, DiskFault, NoStore, StoreExists, Damaged, BadScript, TooLong}
 use Rattle.ss_app.specs.declared.store.OpenFault.{OpenFault}
 use Rattle.ss_app.specs.declared.store.OpenFault.TheVariants as opening
+
+-- the ending of a run whose source is not read to its end
+abbrev pub ending_of_input : InputFault → Ending
+ending_of_input input.Read = ReadFault
+ending_of_input input.TooLong = TooLong
+ending_of_input input.NoMemory = NoMemory
 
 -- the ending of a run whose script is not read
 abbrev pub ending_of : ScriptFault → Ending
@@ -35,6 +44,11 @@ status_of StoreExists = 7
 status_of (Damaged file at) = 8
 status_of (BadScript line kind) = 9
 status_of TooLong = 13
+
+-- the status of a run: its ending's, or that of a sink that failed
+abbrev pub status_after : Result Ending Failed → ℕ
+status_after (Ok ending) = status_of ending
+status_after (Err failed) = 5
 
 -- the number of each kind of fault in a script line
 abbrev pub kind_number : ScriptKind → ℕ

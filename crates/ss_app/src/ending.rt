@@ -5,6 +5,7 @@ ghost use Rattle.ss_io.specs.Causes.{HasCause};
 ghost use Rattle.ss_io.specs.Written.{PutAppends};
 ghost use Rattle.ss_app.specs.Ending.{status_of, line_of, number_text, numbers_text};
 
+use crate::input::InputFault;
 use crate::script::{ScriptFault, ScriptKind};
 use crate::store::OpenFault;
 use itoa::Buffer;
@@ -34,6 +35,21 @@ pub enum Ending {
     BadScript { line: u32, kind: ScriptKind },
     /// The script has more bytes than a script may have.
     TooLong,
+}
+
+impl From<InputFault> for Ending {
+    ghost use Rattle.std.specs.Prelude.{◌≡◌};
+    ghost use Rattle.ss_app.specs.Ending.{ending_of_input};
+
+    ghost from_gives = { λ fault ending. ending ≡ ending_of_input fault };
+
+    fn from(fault: InputFault) -> Ending {
+        match fault {
+            InputFault::Read => Ending::ReadFault,
+            InputFault::TooLong => Ending::TooLong,
+            InputFault::NoMemory => Ending::NoMemory,
+        }
+    }
 }
 
 impl From<ScriptFault> for Ending {

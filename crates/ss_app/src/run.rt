@@ -10,7 +10,7 @@ ghost use Rattle.ss_model.specs.Lawful.{Lawful, After, is_disk_fault};
 ghost use Rattle.ss_io.specs.Causes.{Rose};
 ghost use Rattle.ss_app.specs.declared.script.Line.{Line};
 ghost use Rattle.ss_app.specs.declared.words.Command.TheVariants as command;
-ghost use Rattle.ss_app.specs.Ending.{status_of, line_of};
+ghost use Rattle.ss_app.specs.Ending.{status_of, status_after, line_of};
 ghost use Rattle.ss_app.specs.Opening.{HasNoStore};
 ghost use Rattle.ss_app.specs.Outcome.{Says, Made, Traced, Inited, Ran, RefusesScript, RefusesStore, RefusesInit, IsValidTrace, AsksFor};
 ghost use Rattle.ss_app.specs.Printing.{PrintsUnless};
@@ -23,7 +23,7 @@ ghost use Rattle.ss_app.specs.Words.{command_of};
 
 use crate::ending::Ending;
 use crate::help::{HELP, VERSION};
-use crate::input::{InputFault, read_all};
+use crate::input::read_all;
 use crate::script::{Line, read_script};
 use crate::store::{Store, init};
 use crate::text::{PrintFault, write_entry};
@@ -31,12 +31,12 @@ use crate::views::Views;
 use crate::words::{Command, command_of};
 use ss_cid::NoMemory;
 use ss_disk::Disk;
-use ss_io::{Sink, Source};
+use ss_io::{Failed, Sink, Source};
 use ss_model::Entry;
 use ss_records::Config;
 use std::alloc::Global;
 
-/// The status of a run whose sink failed.
+// The status of a run whose sink failed.
 const WRITE_FAULT: u8 = 5;
 
 /// How a run ended: its status, and the disk as it is then.
@@ -94,8 +94,18 @@ pub fn run_alone<S: Source, K: Sink, D: Disk>(
     ensures complete_init { (settings : Settings) → command_of (map string_bytes words.now) ≡ Ok (command.Init settings) → IsTrue D.told → HasNoStore (D.files disk 0) → ¬ Rose (K.faults sink.old) (K.faults sink.new) → ¬ DiskRose (D.faults disk) (D.faults result.disk) → (result.status ≡ 0) ⊎ (result.status ≡ 3) }
 {
     let mut disk = disk;
-    let status = run_command(alloc, words, source, sink, &mut disk);
+    let status = status_after(run_command(alloc, words, source, sink, &mut disk));
     Exit { status, disk }
+}
+
+// The status of a run: its ending's, or that of a sink that failed.
+fn status_after(ended: Result<Ending, Failed>) -> u8
+    ensures { result ≡ status_after ended }
+{
+    match ended {
+        Ok(ending) => ending.status(),
+        Err(Failed) => WRITE_FAULT,
+    }
 }
 
 fn run_command<S: Source, K: Sink, D: Disk>(
@@ -104,8 +114,8 @@ fn run_command<S: Source, K: Sink, D: Disk>(
     source: &mut S,
     sink: &mut K,
     disk: &mut D,
-) -> u8
-    ensures { Ran (command_of (map string_bytes words.now)) D.Disk disk.old disk.new (S.left source.old) (S.left source.new) (S.faults source.old) (S.faults source.new) (K.written sink.old) (K.written sink.new) (K.faults sink.old) (K.faults sink.new) result }
+) -> Result<Ending, Failed>
+    ensures { Ran (command_of (map string_bytes words.now)) D.Disk disk.old disk.new (S.left source.old) (S.left source.new) (S.faults source.old) (S.faults source.new) (K.written sink.old) (K.written sink.new) (K.faults sink.old) (K.faults sink.new) (status_after result) }
 {
     match command_of(words) {
         Ok(Command::Init(config)) => make(alloc, &config, sink, disk),
@@ -117,19 +127,22 @@ fn run_command<S: Source, K: Sink, D: Disk>(
 }
 
 // Writes a text, and flushes the sink.
-fn say<K: Sink>(sink: &mut K, text: &str) -> u8
-    ensures { Says (K.written sink.old) (K.written sink.new) (K.faults sink.old) (K.faults sink.new) text.now 0 result }
+fn say<K: Sink>(sink: &mut K, text: &str) -> Result<Ending, Failed>
+    ensures { Says (K.written sink.old) (K.written sink.new) (K.faults sink.old) (K.faults sink.new) text.now 0 (status_after result) }
 {
-    if sink.put(text.as_bytes()).is_err() {
-        return WRITE_FAULT;
-    }
+    sink.put(text.as_bytes())?;
     finish(sink, Ending::Done)
 }
 
 // Makes a store.
-fn make<K: Sink, D: Disk>(alloc: Global, config: &Config, sink: &mut K, disk: &mut D) -> u8
+fn make<K: Sink, D: Disk>(
+    alloc: Global,
+    config: &Config,
+    sink: &mut K,
+    disk: &mut D,
+) -> Result<Ending, Failed>
     requires { SettingsFit config.now }
-    ensures { Inited D.Disk disk.old disk.new config.now (K.written sink.old) (K.written sink.new) (K.faults sink.old) (K.faults sink.new) result }
+    ensures { Inited D.Disk disk.old disk.new config.now (K.written sink.old) (K.written sink.new) (K.faults sink.old) (K.faults sink.new) (status_after result) }
 {
     match init(alloc, disk, config) {
         Ok(()) => say(sink, "store made\n"),
@@ -138,16 +151,12 @@ fn make<K: Sink, D: Disk>(alloc: Global, config: &Config, sink: &mut K, disk: &m
 }
 
 // Writes the line of an ending and flushes the sink.
-fn finish<K: Sink>(sink: &mut K, ending: Ending) -> u8
-    ensures { Says (K.written sink.old) (K.written sink.new) (K.faults sink.old) (K.faults sink.new) (line_of ending) (status_of ending) result }
+fn finish<K: Sink>(sink: &mut K, ending: Ending) -> Result<Ending, Failed>
+    ensures { Says (K.written sink.old) (K.written sink.new) (K.faults sink.old) (K.faults sink.new) (line_of ending) (status_of ending) (status_after result) }
 {
-    if ending.put_line(sink).is_err() {
-        return WRITE_FAULT;
-    }
-    match sink.flush() {
-        Ok(()) => ending.status(),
-        Err(_) => WRITE_FAULT,
-    }
+    ending.put_line(sink)?;
+    sink.flush()?;
+    Ok(ending)
 }
 
 // A run of a script: its store, the views of its clients, how many entries were made, and whether the sink has refused a
@@ -300,14 +309,12 @@ fn trace<S: Source, K: Sink, D: Disk>(
     source: &mut S,
     sink: &mut K,
     disk: &mut D,
-) -> u8
-    ensures { Traced D.Disk disk.old disk.new (S.left source.old) (S.left source.new) (S.faults source.old) (S.faults source.new) (K.written sink.old) (K.written sink.new) (K.faults sink.old) (K.faults sink.new) result }
+) -> Result<Ending, Failed>
+    ensures { Traced D.Disk disk.old disk.new (S.left source.old) (S.left source.new) (S.faults source.old) (S.faults source.new) (K.written sink.old) (K.written sink.new) (K.faults sink.old) (K.faults sink.new) (status_after result) }
 {
     let text = match read_all(alloc, source) {
         Ok(text) => text,
-        Err(InputFault::Read) => return finish(sink, Ending::ReadFault),
-        Err(InputFault::TooLong) => return finish(sink, Ending::TooLong),
-        Err(InputFault::NoMemory) => return finish(sink, Ending::NoMemory),
+        Err(fault) => return finish(sink, Ending::from(fault)),
     };
     let lines = match read_script(alloc, text.as_slice()) {
         Ok(lines) => lines,
@@ -319,8 +326,7 @@ fn trace<S: Source, K: Sink, D: Disk>(
     };
     let calls = make_calls(alloc, store, lines, sink, disk);
     if calls.refused {
-        WRITE_FAULT
-    } else {
-        finish(sink, calls.ending)
+        return Err(Failed);
     }
+    finish(sink, calls.ending)
 }

@@ -12,6 +12,7 @@ use ss_io::{MemorySink, MemorySource};
 use std::alloc::Global;
 use std::test::Fail;
 
+// The digests of blocks are those that Python's hashlib computes.
 const ABC: &str = "01551220ba7816bf8f01cfea414140de5dae2223b00361a396177a9cb410ff61f20015ad";
 
 const ABC_TEXT: &str = "bafkreif2pall7dybz7vecqka3zo24irdwabwdi4wc55jznaq75q7eaavvu";
@@ -333,7 +334,7 @@ fn a_script_that_is_too_long(rt: HostRuntime) -> Result<(), Fail> {
 #[test]
 fn puts_that_are_too_big(rt: HostRuntime) -> Result<(), Fail> {
     let many = " bafkqaaa -".repeat(rt.alloc(), 1025)?;
-    // The CID of 65,433 zero bytes, which count for each pair that names it once they are kept.
+    // The CID of 65,433 zero bytes, by Python's hashlib; they count for each pair that names it once they are kept.
     let zeros = "015512203c4e566dd10b8510fc2fec496bf4ac95054c25b5bce2680a24501a3c80ee1fc0";
     let bytes = "00".repeat(rt.alloc(), 65433)?;
     let most = format!(in rt.alloc(); " {zeros} -")?.repeat(rt.alloc(), 240)?;

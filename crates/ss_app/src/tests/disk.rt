@@ -111,7 +111,7 @@ fn a_put_is_one_record_of_the_blocks_that_are_new(rt: HostRuntime) -> Result<(),
 
 #[test]
 fn a_log_is_full_one_byte_before_its_limit(rt: HostRuntime) -> Result<(), Fail> {
-    // The SHA-256 of so many zero bytes.
+    // The SHA-256 of so many zero bytes, by Python's hashlib.
     let table = [
         (
             65434,

@@ -1,26 +1,22 @@
 use Rattle.std.proofs.Common.{refl, ◌∙◌, ap, Err}
 use Rattle.ss_app.proofs.Apart.{stands_apart}
 use Rattle.ss_app.proofs.Clients.{script_below}
-use Rattle.ss_app.proofs.Endings.{no_memory, read_fault, too_long, script_refused, store_refused, asks_for, traced, traced_refused}
+use Rattle.ss_app.proofs.Endings.{input_refused, script_refused, store_refused, asks_for, traced, traced_refused}
 use Rattle.ss_app.proofs.Steps.{begun_story, at_most}
 use Rattle.ss_app.proofs.Still.{same_disk}
 use Rattle.ss_app.specs.declared.TheConstants.{SCRIPT_BYTES}
 use Rattle.ss_app.proofs.run.trace.Goals as goal
 
-pub returns-in-Err-Read : goal.returns-in-Err-Read
-returns-in-Err-Read g c = read_fault g.D.Disk _ _ _ _ _ _ _ _ _ _ _ (same_disk g.D.Disk c.args.disk.now) (c.read_all.ensures.read_fault (c.in-Err-Read.is ∙ ap Err c.in-Err-Read.field-0-is)) c.finish.ensures
-
-pub returns-in-Err-TooLong : goal.returns-in-Err-TooLong
-returns-in-Err-TooLong g c = too_long g.D.Disk _ _ _ _ _ _ _ _ _ _ _ (same_disk g.D.Disk c.args.disk.now) (c.read_all.ensures.too_long (c.in-Err-TooLong.is ∙ ap Err c.in-Err-TooLong.field-0-is)) c.finish-in-Err-TooLong.ensures
-
-pub returns-in-Err-NoMemory : goal.returns-in-Err-NoMemory
-returns-in-Err-NoMemory g c = no_memory g.D.Disk _ _ _ _ _ _ _ _ _ _ _ (same_disk g.D.Disk c.args.disk.now) c.finish-in-Err-NoMemory.ensures
-
 pub returns-in-Err : goal.returns-in-Err
 returns-in-Err g c =
+    let said = rw c.from.ensures at c.finish.ensures in
+    input_refused g.D.Disk _ _ _ _ _ _ _ _ _ _ _ c.in-Err.fault (same_disk g.D.Disk c.args.disk.now) (λ is. c.read_all.ensures.read_fault (c.in-Err.is ∙ ap Err is)) (λ is. c.read_all.ensures.too_long (c.in-Err.is ∙ ap Err is)) said
+
+pub returns-in-Err-read_script : goal.returns-in-Err-read_script
+returns-in-Err-read_script g c =
     let took = rw (← c.as_slice.ensures.value) at c.in-Ok.ensures.all.0 in
-    let said = rw c.from.ensures at c.finish-in-Err.ensures in
-    script_refused g.D.Disk _ _ _ _ _ _ _ _ _ _ _ c.as_slice.result.now c.in-Err.fault (same_disk g.D.Disk c.args.disk.now) took c.in-Ok.ensures.all.1 (at_most _ _ SCRIPT_BYTES c.as_slice.ensures.len c.in-Ok.ensures.within) c.in-Err.ensures said
+    let said = rw c.from-in-Err-read_script.ensures at c.finish-in-Err-read_script.ensures in
+    script_refused g.D.Disk _ _ _ _ _ _ _ _ _ _ _ c.as_slice.result.now c.in-Err-read_script.fault (same_disk g.D.Disk c.args.disk.now) took c.in-Ok.ensures.all.1 (at_most _ _ SCRIPT_BYTES c.as_slice.ensures.len c.in-Ok.ensures.within) c.in-Err-read_script.ensures said
 
 pub returns-in-Err-open : goal.returns-in-Err-open
 returns-in-Err-open g c =
@@ -42,4 +38,4 @@ pub returns : goal.returns
 returns g c =
     let took = rw (← c.as_slice.ensures.value) at c.in-Ok.ensures.all.0 in
     let made = rw c.if-calls.false at c.make_calls-calls.ensures _ (begun_story g.D.Disk _ _ _ _ c.«open».ensures.goes c.in-Ok-open.ensures.serves c.in-Ok-open.ensures.known c.in-Ok-open.ensures.sure) in
-    traced g.D.Disk _ _ _ _ _ _ _ _ _ _ _ _ _ c.as_slice.result.now _ _ took c.in-Ok.ensures.all.1 c.in-Ok.ensures.sound (at_most _ _ SCRIPT_BYTES c.as_slice.ensures.len c.in-Ok.ensures.within) c.in-Ok-read_script.ensures made c.finish-else-calls.ensures
+    traced g.D.Disk _ _ _ _ _ _ _ _ _ _ _ _ _ c.as_slice.result.now _ _ took c.in-Ok.ensures.all.1 c.in-Ok.ensures.sound (at_most _ _ SCRIPT_BYTES c.as_slice.ensures.len c.in-Ok.ensures.within) c.in-Ok-read_script.ensures made c.finish-2.ensures

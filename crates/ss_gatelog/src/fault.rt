@@ -5,7 +5,7 @@ use std::error::Error;
 use std::fmt;
 
 /// Why a call of a log failed.
-#[derive(Clone, Copy, Debug, PartialEq, Eq)]
+#[derive(Clone, Copy, Debug, PartialEq, Eq, Hash)]
 pub enum LogFault {
     /// The disk's count of faults rose.
     DiskFault,

@@ -27,5 +27,7 @@ mod skim;
 #[cfg(test)]
 mod tests;
 
+pub use device::synced_size;
 pub use fault::LogFault;
+pub use frame::{HEAD, LONGEST_BODY, OPEN, length_of};
 pub use log::GateLog;

@@ -66,10 +66,7 @@ insert-next held body i at blocks b h is =
     ∙ ap (λ (l : List BlockPlace). with_pairs held (map (placed body) l)) (sym (places-push 3 front b))
     ∙ ap (λ (l : List (List ℕ × List ℕ)). with_pairs held (placed_all body l)) (sym (take-next blocks i b h))
 
--- one more CID leaves
-pub remove-next : (held : CidMap Place) (i : ℕ) (cids : List (List ℕ)) (c : List ℕ) → slice_get cids i ≡ Some c → finite_map.remove (without_cids held (take i cids)) c ≡ without_cids held (take (i + 1) cids)
-remove-next held i cids c h = sym (without_cids-push held (take i cids) c) ∙ ap (without_cids held) (sym (take-next cids i c h))
-
+-- one more block leaves
 pub remove-block-next : (held : CidMap Place) (i : ℕ) (blocks : List (List ℕ × List ℕ)) (b : List ℕ × List ℕ) → slice_get blocks i ≡ Some b
     → finite_map.remove (without_cids held (map (λ p. p.0) (take i blocks))) b.0 ≡ without_cids held (map (λ p. p.0) (take (i + 1) blocks))
 remove-block-next held i blocks b h =

@@ -6,7 +6,7 @@ use std::error::Error;
 use std::fmt;
 
 /// Why a call of a store failed.
-#[derive(Clone, Copy, Debug, PartialEq, Eq)]
+#[derive(Clone, Copy, Debug, PartialEq, Eq, Hash)]
 pub enum StoreFault {
     /// Memory was wanting.
     NoMemory,

@@ -1,6 +1,6 @@
 ghost use Rattle.std.specs.Prelude.{◌≡◌, ◌⊎◌, ◌+◌, ◌^◌, ◌<◌, ◌≤◌, [], ℕ, List, IsTrue, false, length, Err, Ok, None, IfOk, IfSome};
 ghost use Rattle.std.specs.FinMap as finite_map;
-ghost use Rattle.ss_disk.specs.Disk.{Same, Rose, HasCause};
+ghost use Rattle.ss_disk.specs.Disk.{Same, Rose};
 ghost use Rattle.ss_disk.specs.Calls.{Goes};
 ghost use Rattle.ss_gatelog.specs.Log.{HasList, IsDamaged};
 ghost use Rattle.ss_records.specs.declared.record.Record.{Record};
@@ -11,12 +11,12 @@ ghost use Rattle.ss_hot.specs.Half.{hot_blocks};
 ghost use Rattle.ss_hot.specs.File.{HasSettings, IsHalf, IsDamagedHalf};
 
 use super::walk::Walk;
-use super::window::{HEAD, Window};
+use super::window::Window;
 use super::{FILE, HotStore};
 use crate::StoreFault;
 use ss_cid::NoMemory;
-use ss_disk::{Disk, DiskFault};
-use ss_gatelog::{GateLog, LogFault};
+use ss_disk::Disk;
+use ss_gatelog::{GateLog, HEAD, LogFault, synced_size};
 use ss_records::{Config, Record, RecordFault, decode};
 use std::alloc::Global;
 
@@ -44,14 +44,11 @@ impl HotStore {
         ensures goes { Goes D.Disk Same disk.old disk.new }
         ensures fault { result ≡ Err fault.DiskFault → Rose (D.faults disk.old) (D.faults disk.new) }
     {
-        let size = synced_size(disk)?;
+        let size = synced_size(disk, FILE)?;
         let Some(config) = committed(alloc, disk, size)? else {
             return Ok(None);
         };
-        match HotStore::of_settings(alloc, disk, config) {
-            Ok(store) => Ok(Some(store)),
-            Err(fault) => Err(fault),
-        }
+        Ok(Some(HotStore::of_settings(alloc, disk, config)?))
     }
 
     /// Opens the store of a file in which these settings are committed.
@@ -97,10 +94,7 @@ impl HotStore {
         ensures goes { Goes D.Disk Same disk.old disk.new }
         ensures fault { result ≡ Err fault.DiskFault → Rose (D.faults disk.old) (D.faults disk.new) }
     {
-        let walk = match Walk::over(alloc, disk, log.end()) {
-            Ok(walk) => walk,
-            Err(fault) => return Err(fault),
-        };
+        let walk = Walk::over(alloc, disk, log.end())?;
         if walk.index.len() as u64 > u64::from(config.rows) {
             return Err(StoreFault::Damaged {
                 file: FILE,
@@ -130,17 +124,6 @@ fn damage_before<D: Disk>(alloc: Global, disk: &mut D, at: u64) -> StoreFault
         return fault;
     }
     StoreFault::Damaged { file: FILE, at }
-}
-
-/// Syncs the file and tells its size.
-fn synced_size<D: Disk>(disk: &mut D) -> Result<u64, DiskFault>
-    ensures goes { Goes D.Disk Same disk.old disk.new }
-    ensures length { IsTrue D.told → IfOk result (λ size. size ≡ length (D.files disk.old 0)) }
-    ensures known { IfOk result (λ size. size ≤ D.known disk.new 0) }
-    ensures cause { HasCause (D.faults disk.old) (D.faults disk.new) result }
-{
-    disk.sync(FILE)?;
-    disk.size(FILE)
 }
 
 /// The settings that are committed in a file of `size` bytes.

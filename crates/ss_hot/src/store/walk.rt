@@ -11,12 +11,13 @@ ghost use Rattle.ss_hot.specs.Walk.{has_fault, with_places};
 ghost use Rattle.ss_hot.specs.declared.fault.StoreFault.TheVariants as fault;
 
 use super::FILE;
-use super::window::{HEAD, Window};
+use super::window::Window;
 use crate::StoreFault;
 use crate::index::Index;
 use crate::place::Place;
 use ss_cid::{Cids, NoMemory};
 use ss_disk::Disk;
+use ss_gatelog::HEAD;
 use ss_records::{PutBlocks, Record, RecordFault, decode};
 use std::alloc::Global;
 
@@ -189,8 +190,8 @@ fn insert_all(index: &mut Index, body: u64, blocks: PutBlocks<'_>) -> Result<boo
     Ok(true)
 }
 
-/// Takes blocks out.
-fn remove_all(index: &mut Index, cids: &Cids)
+/// Takes CIDs out of the index.
+pub(super) fn remove_all(index: &mut Index, cids: &Cids)
     ensures { index.new ≡ without_cids index.old cids.now }
 {
     for cid in cids.as_slice() {

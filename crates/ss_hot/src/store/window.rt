@@ -8,19 +8,11 @@ use super::FILE;
 use crate::StoreFault;
 use ss_cid::NoMemory;
 use ss_disk::Disk;
+use ss_gatelog::{HEAD, LONGEST_BODY, OPEN, length_of};
 use std::alloc::Global;
 
 /// How many bytes are read at once: a read of each record alone takes three times as long.
 const PIECE: u64 = 65_536;
-
-/// A gate and a length.
-pub(super) const HEAD: u64 = 5;
-
-/// The gate of a record.
-const OPEN: u8 = 0xa5;
-
-/// The most bytes of a body: 16 MiB.
-const LONGEST_BODY: u32 = 16_777_216;
 
 /// Bytes of the file that were read.
 #[derive(Drop)]
@@ -135,11 +127,4 @@ fn body_len(head: &[u8]) -> Option<u32>
         }
         _ => None,
     }
-}
-
-/// The length that four bytes spell.
-fn length_of(bytes: &[u8; 4]) -> u32
-    ensures { length_bytes result ≡ bytes.now }
-{
-    u32::from_be_bytes(*bytes)
 }

@@ -13,18 +13,16 @@ ghost use Rattle.ss_hot.specs.File.{HasSettings, IsHalf, IsDamagedHalf};
 ghost use Rattle.ss_hot.specs.declared.fault.StoreFault.{StoreFault};
 ghost use Rattle.ss_hot.specs.declared.fault.StoreFault.TheVariants as fault;
 
+use super::walk::remove_all;
 use super::{FILE, HotStore};
 use crate::StoreFault;
 use crate::index::Index;
 use crate::place::Place;
 use ss_cid::{Cids, NoMemory, Parcel};
 use ss_disk::Disk;
-use ss_gatelog::{GateLog, LogFault};
+use ss_gatelog::{GateLog, HEAD, LogFault};
 use ss_records::{Config, Record, encode, encode_dropped, encode_head, encode_put};
 use std::alloc::Global;
-
-/// The bytes of a record in front of its body: its gate and its length.
-const HEAD: u64 = 5;
 
 /// Where the first block begins in the body of a Put, behind the kind and the count.
 const FIRST: u64 = 3;
@@ -66,7 +64,7 @@ fn append_record<D: Disk>(
             room,
         }),
         Err(LogFault::DiskFault) => Err(StoreFault::DiskFault),
-        Err(LogFault::Damaged { at }) => Err(StoreFault::Damaged { file: FILE, at }),
+        Err(LogFault::Damaged { .. }) => unreachable!(),
     }
 }
 
@@ -110,15 +108,6 @@ fn remove_blocks(index: &mut Index, blocks: &Parcel, count: usize)
     }
 }
 
-// Takes CIDs out of the index.
-fn remove_cids(index: &mut Index, cids: &Cids)
-    ensures { index.new ≡ without_cids index.old cids.now }
-{
-    for i in 0..cids.len() {
-        index.remove(&cids.at(i));
-    }
-}
-
 impl HotStore {
     ghost use Rattle.ss_hot.specs.Store.{Hot, Tells, Keeps, SameButDoubt, AreNotHot, room_of};
     ghost use Rattle.ss_hot.specs.Index.{next_key};
@@ -145,7 +134,8 @@ impl HotStore {
         let mut settings = encode(alloc, &Record::Config(*config))?;
         let mut log = match GateLog::create(disk, FILE, config.limit) {
             Ok(log) => log,
-            Err(_) => return Err(StoreFault::DiskFault),
+            Err(LogFault::DiskFault) => return Err(StoreFault::DiskFault),
+            Err(LogFault::LogFull { .. } | LogFault::Damaged { .. }) => unreachable!(),
         };
         append_record(&mut log, disk, &mut generation)?;
         append_record(&mut log, disk, &mut settings)?;
@@ -188,6 +178,7 @@ impl HotStore {
         ensures known { self.new.log.end + 1 ≤ D.known disk.new 0 }
         ensures touches { Touches D.Disk 0 disk.old disk.new }
     {
+        // What it calls matters: by a clause of `len` each CID of the parcel is one.
         prove!(parcel.len() <= 4096);
         let body = self.log.end() + HEAD;
         let mut frame = encode_put(alloc, parcel)?;
@@ -225,11 +216,12 @@ impl HotStore {
         ensures known { self.new.log.end + 1 ≤ D.known disk.new 0 }
         ensures touches { Touches D.Disk 0 disk.old disk.new }
     {
+        // What they call matters: the clauses of `end` bound the log, and by one of `len` each of the CIDs is one.
         prove!(self.log.end() < self.config.limit);
         prove!(cids.len() <= 4096);
         let mut frame = encode_dropped(alloc, cids)?;
         append_record(&mut self.log, disk, &mut frame)?;
-        remove_cids(&mut self.index, cids);
+        remove_all(&mut self.index, cids);
         Ok(())
     }
 
@@ -258,6 +250,7 @@ impl HotStore {
         ensures known { self.new.log.end + 1 ≤ D.known disk.new 0 }
         ensures touches { Touches D.Disk 0 disk.old disk.new }
     {
+        // For the clauses of `end` and `len`, as in `drop_batch`.
         prove!(self.log.end() < self.config.limit);
         prove!(cids.len() <= 64);
         let mut frame = encode_head(alloc, height, cids)?;
@@ -292,6 +285,7 @@ impl HotStore {
         ensures known { self.new.log.end + 1 ≤ D.known disk.new 0 }
         ensures touches { Touches D.Disk 0 disk.old disk.new }
     {
+        // For the clauses of `end`, as in `drop_batch`.
         prove!(self.log.end() < self.config.limit);
         let mut frame = encode(alloc, &Record::Base { base, ended })?;
         append_record(&mut self.log, disk, &mut frame)?;
@@ -314,7 +308,8 @@ impl HotStore {
     {
         match self.log.settle(disk) {
             Ok(()) => Ok(()),
-            Err(_) => Err(StoreFault::DiskFault),
+            Err(LogFault::DiskFault) => Err(StoreFault::DiskFault),
+            Err(LogFault::LogFull { .. } | LogFault::Damaged { .. }) => unreachable!(),
         }
     }
 }

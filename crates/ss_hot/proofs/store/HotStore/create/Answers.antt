@@ -22,8 +22,8 @@ which fault.DiskFault result is full damaged = inr refl
 which (fault.LogFull file need room) result is full damaged = absurd (full file need room is)
 which (fault.Damaged file at) result is full damaged = absurd (damaged file at is)
 
-pub returns-in-Err-clause-touches : goal.returns-in-Err-clause-touches
-returns-in-Err-clause-touches g c = touches g.D.Disk 0 _ _ _ c.create.ensures.goes
+pub returns-in-Err-DiskFault-clause-touches : goal.returns-in-Err-DiskFault-clause-touches
+returns-in-Err-DiskFault-clause-touches g c = touches g.D.Disk 0 _ _ _ c.create.ensures.goes
 
 pub append_record-requires-clause-body : goal.append_record-requires-clause-body
 append_record-requires-clause-body g c =

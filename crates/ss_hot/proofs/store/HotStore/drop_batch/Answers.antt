@@ -23,11 +23,11 @@ returns-in_err-append_record-clause-stops g c records told keeps =
     (c.append_record.ensures.stops (record_kind.Dropped c.args.cids.now) records (c.deref_mut.ensures.value ∙ c.in_ok-frame.ensures) told)
 
 pub invariant_of-self-2 : goal.invariant_of-self-2
-invariant_of-self-2 g c = rw c.remove_cids.ensures (within_without _ _ _ c.args.cids.now (within_more _ _ _ _ _ c.self.invariant c.in_ok-append_record.ensures.ok))
+invariant_of-self-2 g c = rw c.remove_all.ensures (within_without _ _ _ c.args.cids.now (within_more _ _ _ _ _ c.self.invariant c.in_ok-append_record.ensures.ok))
 
 pub returns-clause-kept : goal.returns-clause-kept
 returns-clause-kept g c records told keeps =
-    rw c.remove_cids.ensures (keeps_next g.D.Disk c.args.disk.now _ c.args.self.now c.self.view_is records c.requires.sure keeps _ _ _ (record_kind.Dropped c.args.cids.now) c.in_ok-append_record.ensures.ok (c.in_ok-append_record.ensures.roomy (inl refl))
+    rw c.remove_all.ensures (keeps_next g.D.Disk c.args.disk.now _ c.args.self.now c.self.view_is records c.requires.sure keeps _ _ _ (record_kind.Dropped c.args.cids.now) c.in_ok-append_record.ensures.ok (c.in_ok-append_record.ensures.roomy (inl refl))
     (c.in_ok-append_record.ensures.appended (record_kind.Dropped c.args.cids.now) records (c.deref_mut.ensures.value ∙ c.in_ok-frame.ensures) told)
     c.requires.cids c.len.ensures.cids tt)
 

@@ -12,13 +12,13 @@ returns-then-len-from-clause-damaged g c file at is =
       λ told.
           let bytes = g.D.Disk.files c.args.disk.now 0 in
           let config = c.args.config in
-          let walk = c.in-Ok.walk in
+          let walk = c.in_ok-walk.walk in
           let committed = c.requires.committed told in
           let opened = c.requires.opened told in
           let end = c.end.ensures.end ∙ opened.2.end in
           let walked = walked_list config.limit bytes opened.0 c.end.result (omega (arith, both_within bytes config committed)) opened.1 end in
-          let leads = c.in-Ok.ensures.leads config.limit told walked in
-          let here = c.in-Ok.ensures.whole.0 ∙ end in
+          let leads = c.in_ok-walk.ensures.leads config.limit told walked in
+          let here = c.in_ok-walk.ensures.whole.0 ∙ end in
           let half = is_half bytes config walk leads committed opened.0 opened.1 here in
           let len = many bytes config walk leads committed opened.0 opened.1 here in
           let damaged : IsDamagedHalf bytes 14 = record { settings = config; committed = committed; damage = inr ((leads.front, half, omega (arith, len, c.len.ensures.value, c.from.ensures, c.if-len-from.true)), refl) } in
@@ -29,13 +29,13 @@ pub returns-clause-keeps : goal.returns-clause-keeps
 returns-clause-keeps g c told =
     let bytes = g.D.Disk.files c.args.disk.now 0 in
     let config = c.args.config in
-    let walk = c.in-Ok.walk in
+    let walk = c.in_ok-walk.walk in
     let committed = c.requires.committed told in
     let opened = c.requires.opened told in
     let end = c.end.ensures.end ∙ opened.2.end in
     let walked = walked_list config.limit bytes opened.0 c.end.result (omega (arith, both_within bytes config committed)) opened.1 end in
-    let leads = c.in-Ok.ensures.leads config.limit told walked in
-    let here = c.in-Ok.ensures.whole.0 ∙ end in
+    let leads = c.in_ok-walk.ensures.leads config.limit told walked in
+    let here = c.in_ok-walk.ensures.whole.0 ∙ end in
     let sure = sure_on g.D.Disk c.args.disk.now c.over.new.disk c.args.log opened.0 told c.over.ensures.goes opened.2 in
     let len = many bytes config walk leads committed opened.0 opened.1 here in (
       leads.front,

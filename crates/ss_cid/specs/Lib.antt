@@ -1,4 +1,5 @@
 pub mod Steps
+pub mod Fault
 pub mod Varint
 pub mod Cid
 pub mod Codec

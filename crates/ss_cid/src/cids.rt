@@ -39,7 +39,6 @@ impl Cids {
         ensures ok { OnOk result (self.new ≡ self.old ++ cid ∷ []) }
         ensures err { OnErr result (self.new ≡ self.old) }
     {
-        let _ = cid.as_bytes();
         self.list.push(cid)?;
         Ok(())
     }

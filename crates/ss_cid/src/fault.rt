@@ -1,4 +1,7 @@
 //! Why bytes or a text are no CID.
+ghost use Rattle.std.specs.Prelude.{◌≡◌};
+ghost use Rattle.ss_cid.specs.Fault.{number_of};
+
 use std::error::Error;
 use std::fmt;
 
@@ -18,6 +21,21 @@ pub enum CidFault {
     /// The text does not spell a CID; `at` is the place of the character at fault, or the text's
     /// length.
     BadText { at: usize },
+}
+
+/// The number of the fault, from 1, in the order of the variants.
+impl From<CidFault> for u8 {
+    ghost from_gives = { λ fault number. number ≡ number_of fault };
+
+    fn from(fault: CidFault) -> u8 {
+        match fault {
+            CidFault::Short { .. } => 1,
+            CidFault::LongVarint { .. } => 2,
+            CidFault::NotV1 { .. } => 3,
+            CidFault::TooLong { .. } => 4,
+            CidFault::BadText { .. } => 5,
+        }
+    }
 }
 
 impl fmt::Display for CidFault {

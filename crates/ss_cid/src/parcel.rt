@@ -58,7 +58,6 @@ impl Parcel {
         ensures ok { OnOk result (self.new ≡ self.old ++ (cid, bytes.now) ∷ []) }
         ensures err { OnErr result (self.new ≡ self.old) }
     {
-        let _ = cid.as_bytes();
         if self.entries.len() >= MAX_PAIRS {
             return Err(NoMemory);
         }

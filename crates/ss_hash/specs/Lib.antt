@@ -2,6 +2,7 @@ pub mod Blake2b
 pub mod State
 pub mod Hasher
 pub mod Digest
+pub mod Fault
 pub use Rattle.sha2.specs.Sha256
 pub use Rattle.ss_cid.specs.Cid
 pub use Rattle.ss_cid.specs.Codec

@@ -51,8 +51,11 @@ fn check_digest(digest: &[u8], got: [u8; DIGEST_LEN]) -> Result<(), HashFault>
 
 /// Checks that a block's bytes are those that its CID names.
 ///
-/// The hash function is judged first, with the length of the digest; the bytes are read only where both are
-/// known. Each block has one answer, so that a refusal comes exactly where its cause stands.
+/// The first of these is the refusal: `UnknownHash` with the hash code, where it is none of identity, sha2-256
+/// and blake2b-256, or is one of the latter two and the digest does not have 32 bytes; under identity,
+/// `NotIdentity` with the first place, counted from 0, at which the digest and the bytes differ, or the shorter
+/// length where one begins with the other; under the other two, `Mismatch` with the 32 bytes of the digest that
+/// the bytes have. The bytes are read only where the hash code and the digest's length are known.
 pub fn check(cid: &Cid, bytes: &[u8]) -> Result<(), HashFault>
     ensures valid { IsOk result ↔ IsValid cid.now bytes.now }
     ensures unknown { (code : ℕ) → (result ≡ Err (HashFault.UnknownHash code)) ↔ IsUnknownHash cid.now code }

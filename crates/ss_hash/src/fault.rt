@@ -1,3 +1,6 @@
+ghost use Rattle.std.specs.Prelude.{◌≡◌};
+ghost use Rattle.ss_hash.specs.Fault.{number_of};
+
 use std::error::Error;
 use std::fmt;
 
@@ -12,6 +15,19 @@ pub enum HashFault {
     /// The digest of an identity CID and the bytes differ first at this place, counted from 0, which is the
     /// shorter length where one begins with the other.
     NotIdentity { at: usize },
+}
+
+/// The number of the fault, from 1, in the order of the variants.
+impl From<HashFault> for u8 {
+    ghost from_gives = { λ fault number. number ≡ number_of fault };
+
+    fn from(fault: HashFault) -> u8 {
+        match fault {
+            HashFault::UnknownHash { .. } => 1,
+            HashFault::Mismatch { .. } => 2,
+            HashFault::NotIdentity { .. } => 3,
+        }
+    }
 }
 
 impl fmt::Display for HashFault {

@@ -98,6 +98,48 @@ fn blake2b_at_the_edges_of_blocks(rt: HostRuntime) -> Result<(), Fail> {
     Ok(())
 }
 
+// Digests of `abc` that Python's hashlib computed. Zeros follow them.
+#[test]
+fn blake2b_of_other_lengths(rt: HostRuntime) -> Result<(), Fail> {
+    let table = [
+        (1, "6b"),
+        (20, "384264f676f39536840523f284921cdc68b6846b"),
+        (
+            33,
+            "f7bb660ec10c1b537a53ff432791f8a34c09e9ecfca84288bba1ee39afec290d63",
+        ),
+        (
+            63,
+            "eb5324bb0b0f9ca27381f22f5e49604d7c341b77371fe5bf61fb643c8ab481c7555ef17c9b9e7c92f0daafff6c0d748cab97d2b267bf53f8225c173ea26f3e",
+        ),
+    ];
+    for (len, want) in table {
+        assert!(rt; 1 <= len);
+        assert!(rt; len <= 64);
+        let digest = blake2b(len, b"abc");
+        assert_eq!(rt; hex(rt.alloc(), &digest[..len])?.as_str(), want);
+        assert_eq!(rt; &digest[len..], &[0; 64][len..], "{len} bytes");
+        let mut hasher = Blake2b::new(len);
+        hasher.update(b"abc");
+        assert_eq!(rt; hasher.finish(), digest, "{len} bytes");
+    }
+    Ok(())
+}
+
+#[test]
+fn faults_are_numbered_from_1(rt: HostRuntime) {
+    let faults = [
+        HashFault::UnknownHash { code: 0x13 },
+        HashFault::Mismatch {
+            got: SHA2_256_OF_ABC,
+        },
+        HashFault::NotIdentity { at: 0 },
+    ];
+    for (fault, number) in faults.into_iter().zip(1..) {
+        assert_eq!(rt; u8::from(fault), number);
+    }
+}
+
 #[test]
 fn check_of_blocks(rt: HostRuntime) -> Result<(), Fail> {
     let sha2 = SHA2_256_OF_ABC.as_slice();

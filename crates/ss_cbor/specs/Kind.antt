@@ -1,4 +1,4 @@
--- The number of each kind of fault, which a script prints.
+-- The number of each kind of fault, which the program prints.
 use Rattle.std.specs.Prelude.{ℕ}
 use Rattle.ss_cbor.specs.declared.fault.CborKind.{CborKind}
 use Rattle.ss_cbor.specs.declared.fault.CborKind.TheVariants.{Truncated, LongHead, Indefinite, OtherTag, BadLink, BadSimple, Trailing, CountTooLarge}

@@ -5,6 +5,7 @@ ghost use Rattle.ss_cbor.specs.Gives.{Gives};
 ghost use Rattle.ss_cbor.specs.Reading.{wide_at, argument_at};
 
 use crate::fault::{CborFault, CborKind};
+use crate::major::{BYTES, MAP};
 
 // An argument in 1 byte.
 #[tactic(auto, unfolding(crate::specs::Reading::wide_at))]
@@ -12,11 +13,10 @@ fn u8_at(at: usize, end: usize, bytes: &[u8]) -> Result<(u64, &[u8]), CborFault>
     ensures value { Gives (λ x. (x.0, x.1.now)) result (wide_at w8 24 at end bytes.now) }
     ensures shorter { IfOk result (λ x. length x.1.now ≤ length bytes.now) }
 {
-    if bytes.is_empty() {
+    let Some((field, rest)) = bytes.split_first_chunk() else {
         return Err(CborKind::Truncated.at(end));
-    }
-    let (front, rest) = bytes.split_at(1);
-    let n = front[0];
+    };
+    let n = u8::from_be_bytes(*field);
     if n < 24 {
         return Err(CborKind::LongHead.at(at));
     }
@@ -29,11 +29,10 @@ fn u16_at(at: usize, end: usize, bytes: &[u8]) -> Result<(u64, &[u8]), CborFault
     ensures value { Gives (λ x. (x.0, x.1.now)) result (wide_at w16 (2 ^ 8) at end bytes.now) }
     ensures shorter { IfOk result (λ x. length x.1.now ≤ length bytes.now) }
 {
-    if bytes.len() < 2 {
+    let Some((field, rest)) = bytes.split_first_chunk() else {
         return Err(CborKind::Truncated.at(end));
-    }
-    let (front, rest) = bytes.split_at(2);
-    let n = u16::from_be_bytes([front[0], front[1]]);
+    };
+    let n = u16::from_be_bytes(*field);
     if n < 1 << 8 {
         return Err(CborKind::LongHead.at(at));
     }
@@ -46,11 +45,10 @@ fn u32_at(at: usize, end: usize, bytes: &[u8]) -> Result<(u64, &[u8]), CborFault
     ensures value { Gives (λ x. (x.0, x.1.now)) result (wide_at w32 (2 ^ 16) at end bytes.now) }
     ensures shorter { IfOk result (λ x. length x.1.now ≤ length bytes.now) }
 {
-    if bytes.len() < 4 {
+    let Some((field, rest)) = bytes.split_first_chunk() else {
         return Err(CborKind::Truncated.at(end));
-    }
-    let (front, rest) = bytes.split_at(4);
-    let n = u32::from_be_bytes([front[0], front[1], front[2], front[3]]);
+    };
+    let n = u32::from_be_bytes(*field);
     if n < 1 << 16 {
         return Err(CborKind::LongHead.at(at));
     }
@@ -63,13 +61,10 @@ fn u64_at(at: usize, end: usize, bytes: &[u8]) -> Result<(u64, &[u8]), CborFault
     ensures value { Gives (λ x. (x.0, x.1.now)) result (wide_at w64 (2 ^ 32) at end bytes.now) }
     ensures shorter { IfOk result (λ x. length x.1.now ≤ length bytes.now) }
 {
-    if bytes.len() < 8 {
+    let Some((field, rest)) = bytes.split_first_chunk() else {
         return Err(CborKind::Truncated.at(end));
-    }
-    let (front, rest) = bytes.split_at(8);
-    let n = u64::from_be_bytes([
-        front[0], front[1], front[2], front[3], front[4], front[5], front[6], front[7],
-    ]);
+    };
+    let n = u64::from_be_bytes(*field);
     if n < 1 << 32 {
         return Err(CborKind::LongHead.at(at));
     }
@@ -95,7 +90,7 @@ pub fn argument_at<'a>(
         25 => u16_at(at, end, bytes),
         26 => u32_at(at, end, bytes),
         27 => u64_at(at, end, bytes),
-        31 if (2..=5).contains(&major) => Err(CborKind::Indefinite.at(at)),
+        31 if (BYTES..=MAP).contains(&major) => Err(CborKind::Indefinite.at(at)),
         _ => Err(CborKind::LongHead.at(at)),
     }
 }

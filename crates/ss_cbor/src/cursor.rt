@@ -17,9 +17,6 @@ use crate::scanner::item_end;
 use std::marker::Model;
 
 /// Reads items from left to right. An array or a map is entered: the items in it come next.
-///
-/// It answers the faults of the head that it reads, with the items still due counted from that head alone, or
-/// those of the one item that it skips, and never `Trailing`. After a fault it stands where it stood.
 #[derive(Debug, Drop)]
 pub struct Cursor<'a> {
     rest: &'a [u8],
@@ -49,6 +46,11 @@ impl<'a> Cursor<'a> {
     }
 
     /// Reads one part, which of an array or a map is its head alone.
+    ///
+    /// Refused with the first fault of that head and its content, in the order that the crate's page has; for a
+    /// link, of its tag and what is behind it. Items due are counted from this head alone, so `CountTooLarge`
+    /// means that it holds more than 2^63 - 1 by itself. `Trailing` is never answered, and at the end of the
+    /// input `Truncated` is. A refused cursor is unchanged.
     pub fn next(&mut self) -> Result<Item<'a>, CborFault>
         ensures value { MatchResult result
             (λ item. part_at 0 self.old.end self.old.rest ≡ Ok (part_of item, self.new.rest))
@@ -66,7 +68,10 @@ impl<'a> Cursor<'a> {
         }
     }
 
-    /// Reads one whole item, and lends its bytes.
+    /// Reads one whole item, with all items in it, and lends its bytes.
+    ///
+    /// Refused with the first fault from the left in that item, as `scan` finds it, but never with `Trailing`.
+    /// Items due are counted from this item alone. A refused cursor is unchanged.
     pub fn skip(&mut self) -> Result<&'a [u8], CborFault>
         ensures value { MatchResult result
             (λ item. item_at self.old.end self.old.rest ≡ Ok (item.now, self.new.rest))

@@ -5,7 +5,7 @@ ghost use Rattle.ss_cbor.specs.Kind.{number_of};
 use std::error::Error;
 use std::fmt;
 
-/// What is wrong with bytes that are no item. The numbers are those that a script prints.
+/// What is wrong with bytes that are no item. The numbers are those that the program prints.
 #[derive(Clone, Copy, Debug, PartialEq, Eq, Hash)]
 pub enum CborKind {
     /// The input ends early.

@@ -7,8 +7,9 @@
 //!
 //! [`scan`] accepts exactly the bytes that are one item, and gives its links in order of bytes; of other bytes it
 //! gives the first fault from left to right, with its place. [`Cursor`] reads part by part, or a whole item at
-//! once. [`Writer`] spells parts. `scan`, [`Links`] and [`Cursor`] take no memory, and no stack that grows with
-//! the input: a loop counts the items that are still due.
+//! once. [`Writer`] spells parts. That bytes have one reading, as an item or by their first fault, and that what
+//! is spelled is read again, is in [`laws`]. `scan`, [`Links`] and [`Cursor`] take no memory, and no stack that
+//! grows with the input: a loop counts the items that are still due.
 //!
 //! At a head in place p the faults are tested in this order, and `Truncated` carries the input's length:
 //!
@@ -32,8 +33,9 @@ mod argument;
 mod cursor;
 mod fault;
 mod item;
-mod laws;
+pub mod laws;
 mod links;
+mod major;
 mod raw_part;
 mod reading;
 mod scanner;
@@ -42,10 +44,6 @@ mod writer;
 pub use cursor::Cursor;
 pub use fault::{CborFault, CborKind};
 pub use item::Item;
-pub use laws::{
-    bytes_are_an_item_or_have_one_fault, closed_parts_are_an_item, item_has_one_reading,
-    spelled_is_read,
-};
 pub use links::Links;
 pub use scanner::scan;
 pub use writer::Writer;

@@ -7,6 +7,7 @@ ghost use Rattle.ss_cbor.specs.Reading.{bytes_at, holding, content_at, simple_at
 
 use crate::argument::argument_at;
 use crate::fault::{CborFault, CborKind};
+use crate::major::{ARRAY, BYTES, LINK_TAG, MAP, NEGATIVE, SIMPLE, TEXT, UNSIGNED};
 use crate::raw_part::RawPart;
 use ss_cid::Cid;
 
@@ -61,19 +62,19 @@ fn content_at<'a>(
     ensures shorter { IfOk result (λ x. length x.1.now ≤ length bytes.now) }
 {
     match major {
-        0 => Ok((Some(RawPart::Uint(n)), bytes)),
-        1 => Ok((Some(RawPart::Nint(n)), bytes)),
-        2 => {
+        UNSIGNED => Ok((Some(RawPart::Uint(n)), bytes)),
+        NEGATIVE => Ok((Some(RawPart::Nint(n)), bytes)),
+        BYTES => {
             let (content, rest) = bytes_at(n, end, bytes)?;
             Ok((Some(RawPart::Blob(content)), rest))
         }
-        3 => {
+        TEXT => {
             let (content, rest) = bytes_at(n, end, bytes)?;
             Ok((Some(RawPart::Text(content)), rest))
         }
-        4 => holding(RawPart::Array(n), due, at, bytes),
-        5 => holding(RawPart::Map(n), due, at, bytes),
-        _ if n == 42 => Ok((None, bytes)),
+        ARRAY => holding(RawPart::Array(n), due, at, bytes),
+        MAP => holding(RawPart::Map(n), due, at, bytes),
+        _ if n == LINK_TAG => Ok((None, bytes)),
         _ => Err(CborKind::OtherTag.at(at)),
     }
 }
@@ -120,7 +121,7 @@ fn piece_at<'a>(
     };
     let at = end - bytes.len();
     let major = *byte / 32;
-    if major == 7 {
+    if major == SIMPLE {
         return simple_at(*byte, at, end, rest);
     }
     let (n, rest) = argument_at(major, *byte % 32, at, end, rest)?;

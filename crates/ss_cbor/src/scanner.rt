@@ -9,7 +9,11 @@ use crate::fault::{CborFault, CborKind};
 use crate::links::Links;
 use crate::reading::part_at;
 
-/// The links of bytes that are exactly one item.
+/// The links of bytes that are exactly one item, in order of bytes.
+///
+/// An item is one of CBOR (RFC 8949) in shortest heads with DAG-CBOR's rules for links: the one tag is 42, over
+/// the byte 00 and one whole CID. Texts, keys and floats are not checked. Other bytes are refused with their
+/// first fault from the left and its place, in the order that the crate's page has; `Trailing` comes last.
 pub fn scan(bytes: &[u8]) -> Result<Links<'_>, CborFault>
     ensures accepts { (links : List (List ℕ)) → (result ≡ Ok links) ↔ IsItem bytes.now links }
     ensures refuses { (found : CborFault) → (result ≡ Err found) ↔ IsRefused bytes.now found }

@@ -15,7 +15,7 @@ fn a_million_arrays_in_one_another_are_scanned(rt: HostRuntime) -> Result<(), Fa
 
 #[test]
 fn each_fault_is_found_at_its_place(rt: HostRuntime) {
-    let table: [(&[u8], CborKind, usize); 30] = [
+    let table: [(&[u8], CborKind, usize); 32] = [
         (b"", CborKind::Truncated, 0),
         (b"\x82\x01", CborKind::Truncated, 2),
         (b"\x18", CborKind::Truncated, 1),
@@ -24,6 +24,16 @@ fn each_fault_is_found_at_its_place(rt: HostRuntime) {
         (b"\xd8\x2a", CborKind::Truncated, 2),
         (
             b"\x9b\x7f\xff\xff\xff\xff\xff\xff\xff",
+            CborKind::Truncated,
+            9,
+        ),
+        (
+            b"\x5b\xff\xff\xff\xff\xff\xff\xff\xff",
+            CborKind::Truncated,
+            9,
+        ),
+        (
+            b"\x7b\x7f\xff\xff\xff\xff\xff\xff\xff",
             CborKind::Truncated,
             9,
         ),

@@ -2,6 +2,7 @@
 ghost use Rattle.std.specs.Prelude.{◌≡◌, ◌+◌, ◌<◌, ◌≤◌, ◌^◌, [], ◌∷◌, ◌++◌, length, vec_len, vec_capacity, OnOk, OnErr};
 ghost use Rattle.ss_cbor.specs.Item.{head};
 
+use crate::major::{ARRAY, BYTES, LINK_TAG, MAP, TAG, TEXT, UNSIGNED};
 use ss_cid::{Bytes, Cid, NoMemory};
 use std::alloc::Global;
 use std::marker::Model;
@@ -40,7 +41,7 @@ impl Writer {
         ensures err { OnErr result (self.new ≡ self.old) }
     {
         self.out.reserve(MAX_HEAD)?;
-        put_head(&mut self.out, 0, n);
+        put_head(&mut self.out, UNSIGNED, n);
         Ok(())
     }
 
@@ -50,7 +51,7 @@ impl Writer {
         ensures err { OnErr result (self.new ≡ self.old) }
     {
         self.out.reserve(MAX_HEAD + bytes.len())?;
-        put_head(&mut self.out, 2, bytes.len() as u64);
+        put_head(&mut self.out, BYTES, bytes.len() as u64);
         put(&mut self.out, bytes);
         Ok(())
     }
@@ -62,7 +63,7 @@ impl Writer {
         ensures err { OnErr result (self.new ≡ self.old) }
     {
         self.out.reserve(MAX_HEAD)?;
-        put_head(&mut self.out, 4, n);
+        put_head(&mut self.out, ARRAY, n);
         Ok(())
     }
 
@@ -73,7 +74,7 @@ impl Writer {
         ensures err { OnErr result (self.new ≡ self.old) }
     {
         self.out.reserve(MAX_HEAD)?;
-        put_head(&mut self.out, 5, n);
+        put_head(&mut self.out, MAP, n);
         Ok(())
     }
 
@@ -83,7 +84,7 @@ impl Writer {
         ensures err { OnErr result (self.new ≡ self.old) }
     {
         self.out.reserve(MAX_HEAD + bytes.len())?;
-        put_head(&mut self.out, 3, bytes.len() as u64);
+        put_head(&mut self.out, TEXT, bytes.len() as u64);
         put(&mut self.out, bytes);
         Ok(())
     }
@@ -95,8 +96,8 @@ impl Writer {
     {
         let bytes = cid.as_bytes();
         self.out.reserve(2 * MAX_HEAD + 1 + bytes.len())?;
-        put_head(&mut self.out, 6, 42);
-        put_head(&mut self.out, 2, 1 + bytes.len() as u64);
+        put_head(&mut self.out, TAG, LINK_TAG);
+        put_head(&mut self.out, BYTES, 1 + bytes.len() as u64);
         self.out.push_reserved(0);
         put(&mut self.out, bytes);
         Ok(())

@@ -1,3 +1,6 @@
+ghost use Rattle.std.specs.Prelude.{◌≡◌, ◌+◌, ◌-◌, ◌^◌, ◌≤◌, min};
+ghost use Rattle.ss_io.specs.Causes.{Rose};
+
 use std::error::Error;
 use std::fmt;
 
@@ -12,3 +15,13 @@ impl fmt::Display for Failed {
 }
 
 impl Error for Failed {}
+
+// One fault more, unless the count stands at its last value.
+pub(crate) fn count_fault(faults: &mut u64) -> Failed
+    ensures exact { faults.new ≡ min (faults.old + 1) (2 ^ 64 - 1) }
+    ensures later { faults.old ≤ faults.new }
+    ensures rose { Rose faults.old faults.new }
+{
+    *faults = faults.saturating_add(1);
+    Failed
+}

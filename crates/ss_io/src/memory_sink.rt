@@ -4,6 +4,7 @@ ghost use Rattle.ss_io.specs.Causes.{HasCause};
 ghost use Rattle.ss_io.specs.Memory.{fresh, IsListed, succeeded, failed};
 ghost use Rattle.ss_io.specs.Written.{PutAppends};
 
+use crate::failed::count_fault;
 use crate::{Failed, Sink};
 use ss_cid::{Bytes, NoMemory};
 use std::alloc::Global;
@@ -74,8 +75,7 @@ impl Sink for MemorySink {
         let is_listed = self.failing.contains(&self.calls);
         self.calls = self.calls.saturating_add(1);
         if is_listed || self.content.extend(bytes).is_err() {
-            self.faults = self.faults.saturating_add(1);
-            return Err(Failed);
+            return Err(count_fault(&mut self.faults));
         }
         Ok(())
     }
@@ -91,8 +91,7 @@ impl Sink for MemorySink {
         let is_listed = self.failing.contains(&self.calls);
         self.calls = self.calls.saturating_add(1);
         if is_listed {
-            self.faults = self.faults.saturating_add(1);
-            return Err(Failed);
+            return Err(count_fault(&mut self.faults));
         }
         Ok(())
     }

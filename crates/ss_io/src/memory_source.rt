@@ -4,6 +4,7 @@ ghost use Rattle.std.specs.Io.KnownBytes.{ReadConsumes};
 ghost use Rattle.ss_io.specs.Causes.{HasCause};
 ghost use Rattle.ss_io.specs.Memory.{fresh, IsListed, succeeded, failed};
 
+use crate::failed::count_fault;
 use crate::{Failed, Source};
 use ss_cid::{Bytes, NoMemory};
 use std::alloc::Global;
@@ -75,8 +76,7 @@ impl Source for MemorySource {
         let is_listed = self.failing.contains(&self.calls);
         self.calls = self.calls.saturating_add(1);
         if is_listed {
-            self.faults = self.faults.saturating_add(1);
-            return Err(Failed);
+            return Err(count_fault(&mut self.faults));
         }
         let (_, left) = self.content.as_slice().split_at(self.place);
         let count = copy_front(left, out);

@@ -2,6 +2,7 @@ ghost use Rattle.std.specs.Prelude.{◌≡◌, ◌<◌, ◌≤◌, length, IfOk}
 ghost use Rattle.std.specs.Io.KnownBytes.{WriteAppends};
 ghost use Rattle.ss_io.specs.Written.{PutAppends};
 
+use crate::failed::count_fault;
 use crate::{Failed, Sink};
 use std::io::{ErrorKind, Write};
 
@@ -29,20 +30,16 @@ impl<W: Write> Sink for StdSink<W> {
     ghost faults = { λ s. s.faults };
 
     fn put(&mut self, bytes: &[u8]) -> Result<(), Failed> {
-        let result = write_whole(&mut self.inner, bytes);
-        if result.is_err() {
-            self.faults = self.faults.saturating_add(1);
+        if write_whole(&mut self.inner, bytes).is_err() {
+            return Err(count_fault(&mut self.faults));
         }
-        result
+        Ok(())
     }
 
     fn flush(&mut self) -> Result<(), Failed> {
         match self.inner.flush() {
             Ok(()) => Ok(()),
-            Err(_) => {
-                self.faults = self.faults.saturating_add(1);
-                Err(Failed)
-            }
+            Err(_) => Err(count_fault(&mut self.faults)),
         }
     }
 
@@ -68,6 +65,7 @@ fn write_some<W: Write>(inner: &mut W, bytes: &[u8]) -> Result<usize, Failed>
     ensures some { IfOk result (λ count. (0 < count) × (count ≤ length bytes.now)) }
     ensures bytes { WriteAppends (W.contents inner.old) (W.contents inner.new) result bytes.now }
 {
+    // A call that may be interrupted for ever has no measure, so the tries are bounded.
     for _ in 0..u64::MAX {
         match inner.write(bytes) {
             Ok(0) => return Err(Failed),

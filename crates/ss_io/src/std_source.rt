@@ -3,6 +3,7 @@ ghost use Rattle.std.specs.Option.{ForSome};
 ghost use Rattle.std.specs.Io.{ReadsAtMost};
 ghost use Rattle.std.specs.Io.KnownBytes.{ReadConsumes};
 
+use crate::failed::count_fault;
 use crate::{Failed, Source};
 use std::io::{ErrorKind, Read};
 
@@ -44,10 +45,7 @@ impl<R: Read> Source for StdSource<R> {
                 self.ended = count == 0 && !out.is_empty();
                 Ok(count)
             }
-            Err(failed) => {
-                self.faults = self.faults.saturating_add(1);
-                Err(failed)
-            }
+            Err(_) => Err(count_fault(&mut self.faults)),
         }
     }
 
@@ -61,6 +59,7 @@ fn read_again<R: Read>(inner: &mut R, out: &mut [u8]) -> Result<usize, Failed>
     ensures bound { ReadsAtMost result out.new }
     ensures bytes { ReadConsumes (R.remaining inner.old) (R.remaining inner.new) result out.new }
 {
+    // A call that may be interrupted for ever has no measure, so the tries are bounded.
     for _ in 0..u64::MAX {
         match inner.read(out) {
             Ok(count) => return Ok(count),

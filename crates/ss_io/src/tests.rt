@@ -1,7 +1,7 @@
 use super::*;
 use ss_cid::Bytes;
 use std::io;
-use std::io::Write;
+use std::io::{ErrorKind, Read, Write};
 use std::test::Fail;
 
 // A writer that counts how often it is flushed.
@@ -15,6 +15,62 @@ impl Write for Flushes {
 
     fn flush(&mut self) -> io::Result<()> {
         self.0 = self.0.saturating_add(1);
+        Ok(())
+    }
+}
+
+// A reader that is interrupted, gives two bytes, ends, and would then give two bytes at each call.
+#[derive(Drop)]
+struct Resuming(u32);
+
+impl Read for Resuming {
+    fn read(&mut self, out: &mut [u8]) -> io::Result<usize> {
+        self.0 = self.0.saturating_add(1);
+        match self.0 {
+            1 => Err(io::Error::from(ErrorKind::Interrupted)),
+            3 => Ok(0),
+            _ => Ok(out.len().min(2)),
+        }
+    }
+}
+
+// A reader that fails at its second call alone, and gives a byte at each other.
+#[derive(Drop)]
+struct Broken(u32);
+
+impl Read for Broken {
+    fn read(&mut self, out: &mut [u8]) -> io::Result<usize> {
+        self.0 = self.0.saturating_add(1);
+        if self.0 == 2 {
+            return Err(io::Error::from(ErrorKind::WouldBlock));
+        }
+        Ok(out.len().min(1))
+    }
+}
+
+// A writer that is interrupted at each even call, and takes one byte at each odd one.
+#[derive(Drop)]
+struct Halting {
+    calls: u32,
+    taken: usize,
+    bytes: [u8; 5],
+}
+
+impl Write for Halting {
+    fn write(&mut self, bytes: &[u8]) -> io::Result<usize> {
+        self.calls = self.calls.saturating_add(1);
+        if self.calls % 2 == 0 {
+            return Err(io::Error::from(ErrorKind::Interrupted));
+        }
+        if bytes.is_empty() || self.taken >= 5 {
+            return Ok(0);
+        }
+        self.bytes[self.taken] = bytes[0];
+        self.taken += 1;
+        Ok(1)
+    }
+
+    fn flush(&mut self) -> io::Result<()> {
         Ok(())
     }
 }
@@ -130,4 +186,39 @@ fn ends_over_std(rt: HostRuntime) {
     assert_eq!(rt; puts(&mut sink), ([Ok(()), Ok(()), Ok(()), Ok(())], 0));
     drop(sink);
     assert_eq!(rt; counter.0, 1);
+}
+
+#[test]
+fn a_source_over_std_stays_at_its_end(rt: HostRuntime) {
+    let mut reader = Resuming(0);
+    let mut source = StdSource::new(&mut reader);
+    assert_eq!(rt;
+        reads(&mut source),
+        ([Ok(2), Ok(0), Ok(0), Ok(0), Ok(0)], 0)
+    );
+    drop(source);
+    assert_eq!(rt; reader.0, 3);
+}
+
+#[test]
+fn a_source_over_std_counts_the_read_that_fails(rt: HostRuntime) {
+    let mut source = StdSource::new(Broken(0));
+    assert_eq!(rt;
+        reads(&mut source),
+        ([Ok(1), Err(Failed), Ok(1), Ok(1), Ok(1)], 1)
+    );
+}
+
+#[test]
+fn a_sink_over_std_writes_on_until_all_is_taken(rt: HostRuntime) {
+    let mut writer = Halting {
+        calls: 0,
+        taken: 0,
+        bytes: [0; 5],
+    };
+    let mut sink = StdSink::new(&mut writer);
+    assert_eq!(rt; puts(&mut sink), ([Ok(()), Ok(()), Ok(()), Ok(())], 0));
+    drop(sink);
+    assert_eq!(rt; writer.bytes, [1, 2, 3, 4, 5]);
+    assert_eq!(rt; writer.calls, 9);
 }

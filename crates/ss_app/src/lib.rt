@@ -33,13 +33,11 @@ mod tests;
 mod text;
 mod views;
 mod words;
-#[cfg(test)]
-mod words_tests;
 
 pub use run::{Exit, run_alone};
 
 /// The most bytes that a script may have.
-pub const SCRIPT_BYTES: usize = 16777216;
+pub const SCRIPT_BYTES: usize = 16_777_216;
 
 /// How many clients a script may have.
 const CLIENTS: usize = 8;

@@ -7,14 +7,20 @@ ghost use Rattle.ss_records.specs.Record.{SettingsFit};
 ghost use Rattle.ss_app.specs.declared.words.Command.TheVariants.{Init};
 ghost use Rattle.ss_app.specs.Words.{CommandFits, command_of, words_of, alone, init_of, settings_from, no_settings, mode_of, number_within, once};
 
+#[cfg(test)]
+mod tests;
+
 use crate::script::is_number;
 use ss_records::{Config, Mode};
 
-/// The most epochs that a setting may count.
-const MOST_EPOCHS: u64 = 1 << 62;
+/// How many epochs behind the head the edge of a compaction lies where no word says it.
+const DEFAULT_DEPTH: u64 = 3600;
 
-/// The most bytes that a log file may have.
-const MOST_BYTES: u64 = 1 << 40;
+/// How many epochs behind the head the last edge lies before a compaction is due, where no word says it.
+const DEFAULT_THRESHOLD: u64 = 4500;
+
+/// How many blocks a step handles where no word says it.
+const DEFAULT_BATCH: u32 = 256;
 
 /// What the words of the command line ask for.
 #[derive(Clone, Copy, Debug, PartialEq, Eq)]
@@ -77,7 +83,7 @@ fn init(words: &[String]) -> Result<Command, usize>
 fn read_settings(words: &[String]) -> Result<Settings, usize>
     ensures { result ≡ settings_from 1 no_settings (map string_bytes words.now) }
 {
-    let mut settings = Settings::NONE;
+    let mut settings = Settings::default();
     for (index, word) in words.iter().enumerate() {
         let Some(more) = settings.with_word(word.as_str()) else {
             return Err(index + 1);
@@ -118,8 +124,8 @@ impl Key {
     }
 }
 
-// What the words of `init` set.
-#[derive(Clone, Copy, Debug, PartialEq, Eq)]
+// What the words of `init` set; at first nothing.
+#[derive(Clone, Copy, Debug, Default, PartialEq, Eq)]
 struct Settings {
     mode: Option<Mode>,
     depth: Option<u64>,
@@ -132,15 +138,6 @@ struct Settings {
 impl Settings {
     ghost use Rattle.std.specs.Prelude.{◌≡◌};
     ghost use Rattle.ss_app.specs.Words.{with_word, with_value, config_of};
-
-    const NONE: Settings = Settings {
-        mode: None,
-        depth: None,
-        threshold: None,
-        batch: None,
-        rows: None,
-        limit: None,
-    };
 
     // The settings with one word more, where it is of the form.
     #[tactic(auto, unfolding(crate::specs::Words::with_word))]
@@ -158,13 +155,22 @@ impl Settings {
     {
         match key {
             Key::Mode => self.mode = Some(once(self.mode, read_mode(value))?),
-            Key::Depth => self.depth = Some(once(self.depth, decimal(value, 0, MOST_EPOCHS))?),
-            Key::Threshold => {
-                self.threshold = Some(once(self.threshold, decimal(value, 1, MOST_EPOCHS))?)
+            Key::Depth => {
+                self.depth = Some(once(self.depth, decimal(value, 0, Config::MAX_EPOCHS))?)
             }
-            Key::Batch => self.batch = Some(once(self.batch, small_decimal(value, 1, 4096))?),
+            Key::Threshold => {
+                self.threshold = Some(once(self.threshold, decimal(value, 1, Config::MAX_EPOCHS))?)
+            }
+            Key::Batch => {
+                self.batch = Some(once(self.batch, small_decimal(value, 1, Config::MAX_BATCH))?)
+            }
             Key::Rows => self.rows = Some(once(self.rows, small_decimal(value, 1, u32::MAX))?),
-            Key::Limit => self.limit = Some(once(self.limit, decimal(value, 65536, MOST_BYTES))?),
+            Key::Limit => {
+                self.limit = Some(once(
+                    self.limit,
+                    decimal(value, Config::MIN_LIMIT, Config::MAX_LIMIT),
+                )?)
+            }
         }
         Some(self)
     }
@@ -175,11 +181,11 @@ impl Settings {
     {
         Some(Config {
             mode: self.mode?,
-            depth: self.depth.unwrap_or(3600),
-            threshold: self.threshold.unwrap_or(4500),
-            batch: self.batch.unwrap_or(256),
+            depth: self.depth.unwrap_or(DEFAULT_DEPTH),
+            threshold: self.threshold.unwrap_or(DEFAULT_THRESHOLD),
+            batch: self.batch.unwrap_or(DEFAULT_BATCH),
             rows: self.rows.unwrap_or(u32::MAX),
-            limit: self.limit.unwrap_or(MOST_BYTES),
+            limit: self.limit.unwrap_or(Config::MAX_LIMIT),
         })
     }
 }

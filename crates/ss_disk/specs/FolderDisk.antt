@@ -1,5 +1,5 @@
 -- What contracts see of a disk over a folder: its known lengths and its count of faults, and nothing of its files.
-use Rattle.std.specs.Prelude.{◌≡◌, ℕ, slice_index}
+use Rattle.std.specs.Prelude.{◌≡◌, ℕ, None, IsSome, slice_index, slice_index_or}
 use Rattle.ss_disk.specs.declared.folder.FolderDisk.{FolderDisk}
 
 abbrev pub known_of : {R : Type 0} → FolderDisk R → ℕ → ℕ
@@ -7,6 +7,10 @@ known_of disk file = slice_index disk.known file
 
 abbrev pub faults_of : {R : Type 0} → FolderDisk R → ℕ
 faults_of disk = disk.faults
+
+-- the file was opened
+abbrev pub IsOpen : {R : Type 0} → FolderDisk R → ℕ → Type 0
+IsOpen disk file = IsSome (slice_index_or disk.files file None)
 
 -- no known length changed, and no fault was counted
 pub record SameLengths {R : Type 0} (old new : FolderDisk R) : Type 0 where

@@ -3,6 +3,9 @@ ghost use Rattle.ss_disk.specs.Disk.{Files, Holds, Torn, Same, Changes, Evolves,
 
 use crate::DiskFault;
 
+// How many files a disk has.
+pub(crate) const FILES: usize = 6;
+
 /// Six files of bytes that can be written in place and synced, which a crash may leave half done.
 ///
 /// The files are, from 0 to 5: the two halves of the hot log, the two halves of the cold log, the

@@ -1,13 +1,14 @@
-ghost use Rattle.std.specs.Prelude.{◌≡◌, ◌+◌, ◌^◌, ◌<◌, ◌≤◌, [], false, length, slice_index, slice_set, IfOk};
+ghost use Rattle.std.specs.Prelude.{◌≡◌, ◌+◌, ◌^◌, ◌<◌, ◌≤◌, [], false, length, slice_index, slice_set, IfOk, OnOk};
 ghost use Rattle.ss_disk.specs.Disk.{Rose};
 
+use crate::disk::FILES;
 use crate::fault::count;
 use crate::{Disk, DiskFault, NoMemory};
 use std::alloc::Global;
 use std::fs::{File, OpenOptions};
-use std::io;
 use std::os::unix::fs::FileExt;
 use std::rt::Files;
+use std::{array, io};
 
 /// A disk over a folder: six files, each opened or made at the first call that names it.
 ///
@@ -20,13 +21,13 @@ pub struct FolderDisk<R> {
     runtime: R,
     alloc: Global,
     folder: String,
-    files: [Option<File>; 6],
-    known: [u64; 6],
+    files: [Option<File>; FILES],
+    known: [u64; FILES],
     faults: u64,
 }
 
 impl<R: Files<File = File> + Drop> FolderDisk<R> {
-    ghost use Rattle.ss_disk.specs.FolderDisk.{known_of, faults_of, SameLengths};
+    ghost use Rattle.ss_disk.specs.FolderDisk.{known_of, faults_of, IsOpen, SameLengths};
 
     /// The disk over this folder. It touches no file yet.
     pub fn new(alloc: Global, runtime: R, folder: &str) -> Result<FolderDisk<R>, NoMemory>
@@ -37,8 +38,8 @@ impl<R: Files<File = File> + Drop> FolderDisk<R> {
             runtime,
             alloc,
             folder: String::from_str(alloc, folder)?,
-            files: [None, None, None, None, None, None],
-            known: [0; 6],
+            files: array::from_fn(|_| None),
+            known: [0; FILES],
             faults: 0,
         })
     }
@@ -58,62 +59,56 @@ impl<R: Files<File = File> + Drop> FolderDisk<R> {
         Ok(opened)
     }
 
-    // The file, which was opened at the first call that names it. It has to be put back.
-    fn take(&mut self, file: u8) -> io::Result<File>
+    // Opens the file where no call has named it yet.
+    fn open_once(&mut self, file: u8) -> io::Result<()>
         requires { file < 6 }
-        ensures { SameLengths self.old self.new }
+        ensures same { SameLengths self.old self.new }
+        ensures opened { OnOk result (IsOpen self.new file) }
     {
-        match self.files[file as usize].take() {
-            Some(opened) => Ok(opened),
-            None => self.open(file),
+        if self.files[file as usize].is_none() {
+            self.files[file as usize] = Some(self.open(file)?);
         }
+        Ok(())
     }
 
-    fn put_back(&mut self, file: u8, opened: File)
-        requires { file < 6 }
-        ensures { SameLengths self.old self.new }
+    // The file, which is open.
+    fn opened(&self, file: u8) -> &File
+        requires file { file < 6 }
+        requires opened { IsOpen self.now file }
     {
-        self.files[file as usize] = Some(opened);
+        self.files[file as usize].as_ref().unwrap()
     }
 
     fn try_size(&mut self, file: u8) -> io::Result<u64>
         requires { file < 6 }
         ensures { SameLengths self.old self.new }
     {
-        let opened = self.take(file)?;
-        let metadata = opened.metadata();
-        self.put_back(file, opened);
-        Ok(metadata?.len())
+        self.open_once(file)?;
+        Ok(self.opened(file).metadata()?.len())
     }
 
     fn try_read(&mut self, file: u8, at: u64, out: &mut [u8]) -> io::Result<()>
         requires { file < 6 }
         ensures { SameLengths self.old self.new }
     {
-        let opened = self.take(file)?;
-        let read = opened.read_exact_at(out, at);
-        self.put_back(file, opened);
-        read
+        self.open_once(file)?;
+        self.opened(file).read_exact_at(out, at)
     }
 
     fn try_write(&mut self, file: u8, at: u64, bytes: &[u8]) -> io::Result<()>
         requires { file < 6 }
         ensures { SameLengths self.old self.new }
     {
-        let opened = self.take(file)?;
-        let written = opened.write_all_at(bytes, at);
-        self.put_back(file, opened);
-        written
+        self.open_once(file)?;
+        self.opened(file).write_all_at(bytes, at)
     }
 
     fn try_sync(&mut self, file: u8) -> io::Result<()>
         requires { file < 6 }
         ensures { SameLengths self.old self.new }
     {
-        let opened = self.take(file)?;
-        let synced = opened.sync_data();
-        self.put_back(file, opened);
-        synced
+        self.open_once(file)?;
+        self.opened(file).sync_data()
     }
 }
 

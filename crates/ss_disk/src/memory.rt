@@ -8,22 +8,24 @@ mod call;
 mod image;
 mod way;
 
+use crate::disk::FILES;
 use crate::fault::count;
 use crate::{Disk, DiskFault, NoMemory};
 use bytes::{cut_short, overwrite};
 pub use call::DeviceCall;
 use image::images;
 use std::alloc::{AllocError, Global};
+use std::array;
 use way::Way;
 
 /// A disk in memory that keeps every call, so that it can tell what a crash after any of them leaves.
 /// It is for tests: its memory grows with what is written.
-#[derive(Drop)]
+#[derive(Debug, Drop)]
 pub struct MemoryDisk {
     alloc: Global,
-    first: [Vec<u8>; 6],
-    current: [Vec<u8>; 6],
-    known: [u64; 6],
+    first: [Vec<u8>; FILES],
+    current: [Vec<u8>; FILES],
+    known: [u64; FILES],
     calls: Vec<DeviceCall>,
     failing: Vec<u64>,
     faults: u64,
@@ -43,7 +45,7 @@ impl MemoryDisk {
             alloc,
             first: empty_files(alloc),
             current: empty_files(alloc),
-            known: [0; 6],
+            known: [0; FILES],
             calls: Vec::new(alloc),
             failing: Vec::new(alloc),
             faults: 0,
@@ -84,7 +86,7 @@ impl MemoryDisk {
     }
 
     // A disk that holds these files, on which nothing is pending.
-    fn holding(alloc: Global, first: [Vec<u8>; 6]) -> Result<MemoryDisk, AllocError>
+    fn holding(alloc: Global, first: [Vec<u8>; FILES]) -> Result<MemoryDisk, AllocError>
         requires { length first ≡ 6 }
         ensures fresh { IfOk result IsFresh }
         ensures files { IfOk result (λ disk. (file : ℕ) → files_of disk file ≡ contents first file) }
@@ -94,7 +96,7 @@ impl MemoryDisk {
             alloc,
             first,
             current,
-            known: [0; 6],
+            known: [0; FILES],
             calls: Vec::new(alloc),
             failing: Vec::new(alloc),
             faults: 0,
@@ -147,9 +149,7 @@ impl MemoryDisk {
         ensures failing { self.new.failing ≡ self.old.failing }
     {
         self.calls.reserve(1)?;
-        if let Err(error) = overwrite_file(&mut self.current, file, at, &left) {
-            return Err(error);
-        }
+        overwrite_file(&mut self.current, file, at, &left)?;
         let call = DeviceCall::Wrote {
             file,
             at,
@@ -294,7 +294,7 @@ impl Disk for MemoryDisk {
 }
 
 fn overwrite_file(
-    files: &mut [Vec<u8>; 6],
+    files: &mut [Vec<u8>; FILES],
     file: u8,
     at: u64,
     bytes: &[u8],
@@ -309,7 +309,7 @@ fn overwrite_file(
     overwrite(&mut files[file as usize], at as usize, bytes)
 }
 
-fn copies(alloc: Global, files: &[Vec<u8>; 6]) -> Result<[Vec<u8>; 6], AllocError>
+fn copies(alloc: Global, files: &[Vec<u8>; FILES]) -> Result<[Vec<u8>; FILES], AllocError>
     requires { length files.now ≡ 6 }
     ensures { IfOk result (λ copies. (file : ℕ) → contents copies file ≡ contents files.now file) }
 {
@@ -323,7 +323,7 @@ fn copies(alloc: Global, files: &[Vec<u8>; 6]) -> Result<[Vec<u8>; 6], AllocErro
     ])
 }
 
-fn copy(alloc: Global, files: &[Vec<u8>; 6], file: u8) -> Result<Vec<u8>, AllocError>
+fn copy(alloc: Global, files: &[Vec<u8>; FILES], file: u8) -> Result<Vec<u8>, AllocError>
     requires six { length files.now ≡ 6 }
     requires file { file < 6 }
     ensures { IfOk result (λ copy. copy.items ≡ contents files.now file) }
@@ -331,15 +331,8 @@ fn copy(alloc: Global, files: &[Vec<u8>; 6], file: u8) -> Result<Vec<u8>, AllocE
     files[file as usize].to_vec(alloc)
 }
 
-fn empty_files(alloc: Global) -> [Vec<u8>; 6]
+fn empty_files(alloc: Global) -> [Vec<u8>; FILES]
     ensures { (file : ℕ) → contents result file ≡ [] }
 {
-    [
-        Vec::new(alloc),
-        Vec::new(alloc),
-        Vec::new(alloc),
-        Vec::new(alloc),
-        Vec::new(alloc),
-        Vec::new(alloc),
-    ]
+    array::from_fn(|_| Vec::new(alloc))
 }

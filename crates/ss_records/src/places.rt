@@ -2,7 +2,7 @@ ghost use Rattle.std.specs.Prelude.{◌≡◌, ◌≢◌, ◌<◌, ◌≤◌, �
 
 use crate::fault::{Misfit, RecordFault};
 use crate::fields::{block_at, content, u16_at};
-use crate::record::KIND_PUT;
+use crate::record::{KIND_PUT, Record};
 use ss_cid::Cid;
 
 /// A block in the body of a Put.
@@ -21,7 +21,7 @@ pub struct BlockPlace {
 ///
 /// Where the body spells no record, its fault comes once, behind the blocks in front of it, and nothing
 /// after it. It is that of [`decode`](crate::decode), with its place.
-#[derive(Drop)]
+#[derive(Debug, Drop)]
 pub struct PutBlocks<'a> {
     rest: &'a [u8],
     end: usize,
@@ -63,7 +63,7 @@ impl<'a> PutBlocks<'a> {
         ensures end { IfOk result (λ blocks. blocks.end ≡ end) }
         ensures err { IfErr result (λ misfit. number_at w16 1 4096 fields.now ≡ Err misfit.left) }
     {
-        let (due, rest) = u16_at(1, 4096, fields)?;
+        let (due, rest) = u16_at(1, Record::MAX_BLOCKS, fields)?;
         Ok(PutBlocks { rest, end, due })
     }
 

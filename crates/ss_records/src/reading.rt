@@ -24,11 +24,11 @@ fn config_of(fields: &[u8]) -> Result<Record, Misfit>
 {
     let (_, rest) = u8_at(1, 1, fields)?;
     let (mode, rest) = u8_at(0, 1, rest)?;
-    let (depth, rest) = u64_at(0, 1 << 62, rest)?;
-    let (threshold, rest) = u64_at(1, 1 << 62, rest)?;
-    let (batch, rest) = u32_at(1, 4096, rest)?;
+    let (depth, rest) = u64_at(0, Config::MAX_EPOCHS, rest)?;
+    let (threshold, rest) = u64_at(1, Config::MAX_EPOCHS, rest)?;
+    let (batch, rest) = u32_at(1, Config::MAX_BATCH, rest)?;
     let (rows, rest) = u32_at(1, u32::MAX, rest)?;
-    let (limit, rest) = u64_at(65536, 1 << 40, rest)?;
+    let (limit, rest) = u64_at(Config::MIN_LIMIT, Config::MAX_LIMIT, rest)?;
     let mode = if mode == 0 {
         Mode::Discard
     } else {
@@ -73,7 +73,7 @@ fn cids_of(alloc: Global, allowed: Allowed, count: usize, fields: &[u8]) -> Resu
 fn stored_cids(alloc: Global, fields: &[u8]) -> Result<Cids, Fault>
     ensures { Gives (λ cids. cids) result (list_of w16 4096 stored_cid_at fields.now) }
 {
-    let (count, cids) = u16_at(1, 4096, fields)?;
+    let (count, cids) = u16_at(1, Record::MAX_BLOCKS, fields)?;
     cids_of(alloc, Allowed::Stored, usize::from(count), cids)
 }
 
@@ -82,7 +82,7 @@ fn stored_cids(alloc: Global, fields: &[u8]) -> Result<Cids, Fault>
 fn tipset_cids(alloc: Global, fields: &[u8]) -> Result<Cids, Fault>
     ensures { Gives (λ cids. cids) result (list_of w8 64 cid_at fields.now) }
 {
-    let (count, cids) = u8_at(1, 64, fields)?;
+    let (count, cids) = u8_at(1, Record::MAX_TIPSET, fields)?;
     cids_of(alloc, Allowed::Any, usize::from(count), cids)
 }
 
@@ -90,8 +90,8 @@ fn tipset_cids(alloc: Global, fields: &[u8]) -> Result<Cids, Fault>
 fn head_of(alloc: Global, fields: &[u8]) -> Result<Record, Fault>
     ensures { Gives (λ r. r) result (head_of fields.now) }
 {
-    let (count, rest) = u8_at(1, 64, fields)?;
-    let (height, rest) = u64_at(0, (1 << 63) - 1, rest)?;
+    let (count, rest) = u8_at(1, Record::MAX_TIPSET, fields)?;
+    let (height, rest) = u64_at(0, Record::MAX_HEIGHT, rest)?;
     let cids = cids_of(alloc, Allowed::Any, usize::from(count), rest)?;
     Ok(Record::Head { height, cids })
 }
@@ -100,7 +100,7 @@ fn head_of(alloc: Global, fields: &[u8]) -> Result<Record, Fault>
 fn base_of(fields: &[u8]) -> Result<Record, Misfit>
     ensures { Reads (λ r. r) result (base_of fields.now) }
 {
-    let (base, rest) = u64_at(0, (1 << 63) - 1, fields)?;
+    let (base, rest) = u64_at(0, Record::MAX_HEIGHT, fields)?;
     let ended = number_of(0, rest)?;
     Ok(Record::Base { base, ended })
 }
@@ -134,7 +134,7 @@ fn blocks_of(alloc: Global, count: usize, fields: &[u8]) -> Result<Parcel, Fault
 fn put_blocks(alloc: Global, fields: &[u8]) -> Result<Parcel, Fault>
     ensures { Gives (λ blocks. blocks) result (list_of w16 4096 block_at fields.now) }
 {
-    let (count, blocks) = u16_at(1, 4096, fields)?;
+    let (count, blocks) = u16_at(1, Record::MAX_BLOCKS, fields)?;
     blocks_of(alloc, usize::from(count), blocks)
 }
 

@@ -51,10 +51,24 @@ pub struct Config {
     pub limit: u64,
 }
 
+impl Config {
+    /// The most epochs that a depth or a threshold may count, 2^62, by format 1 of the logs.
+    pub const MAX_EPOCHS: u64 = 1 << 62;
+
+    /// The most blocks that a step may handle, by format 1 of the logs.
+    pub const MAX_BATCH: u32 = 4096;
+
+    /// The fewest bytes that a log file may be limited to, by format 1 of the logs.
+    pub const MIN_LIMIT: u64 = 65_536;
+
+    /// The most bytes that a log file may be limited to, 2^40, by format 1 of the logs.
+    pub const MAX_LIMIT: u64 = 1 << 40;
+}
+
 /// A record of a log.
 ///
 /// The CIDs of a Put, a Drop and a Cold are none of identity CIDs, whose blocks no store keeps.
-#[derive(Drop)]
+#[derive(Debug, Drop)]
 pub enum Record {
     /// The settings, which follow the generation of a log.
     Config(Config),
@@ -78,4 +92,15 @@ pub enum Record {
     Copied(u64),
     /// How many of them are out of the hot store, in the order of their list.
     Purged(u64),
+}
+
+impl Record {
+    /// The most blocks of a Put, and the most CIDs of a Drop or a Cold, by format 1 of the logs.
+    pub const MAX_BLOCKS: u16 = 4096;
+
+    /// The most CIDs of a tipset, by format 1 of the logs.
+    pub const MAX_TIPSET: u8 = 64;
+
+    /// The greatest height of a head, and the greatest edge of a base, 2^63 - 1, by format 1 of the logs.
+    pub const MAX_HEIGHT: u64 = (1 << 63) - 1;
 }

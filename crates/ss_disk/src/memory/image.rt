@@ -7,15 +7,16 @@ ghost use Rattle.ss_disk.specs.Disk.{Torn};
 use super::bytes::{cut_short, overwrite};
 use super::call::DeviceCall;
 use super::way::Way;
+use crate::disk::FILES;
 use std::alloc::{AllocError, Global};
 
 /// One image of all files that a crash after these calls may leave.
 pub(super) fn images(
     alloc: Global,
-    first: &[Vec<u8>; 6],
+    first: &[Vec<u8>; FILES],
     calls: &[DeviceCall],
     choice: u64,
-) -> Result<[Vec<u8>; 6], AllocError>
+) -> Result<[Vec<u8>; FILES], AllocError>
     requires six { length first.now ≡ 6 }
     requires fitting { (g : ℕ) → IsTrue (fits (contents first.now g) (story g calls.now)) }
     ensures six { IfOk result (λ files. length files ≡ 6) }
@@ -33,7 +34,7 @@ pub(super) fn images(
 
 fn image(
     alloc: Global,
-    first: &[Vec<u8>; 6],
+    first: &[Vec<u8>; FILES],
     calls: &[DeviceCall],
     file: u8,
     choice: u64,

@@ -6,9 +6,9 @@ use Rattle.ss_disk.specs.Memory.{contents, Replays}
 use Rattle.ss_disk.proofs.Stories.{replays_same, replays_wrote, has_room}
 use Rattle.ss_disk.proofs.memory.MemoryDisk.put.Goals as goal
 
-pub invariant_of-self-in-Err-1 : goal.invariant_of-self-in-Err-1
-invariant_of-self-in-Err-1 c =
-    record { replays = replays_same _ _ _ _ _ _ c.args.self.now.replays c.overwrite_file.ensures.six c.in-Err.ensures.err c.in_ok-reserve.ensures.items }
+pub invariant_of-self-in-Break-branch-2 : goal.invariant_of-self-in-Break-branch-2
+invariant_of-self-in-Break-branch-2 c =
+    record { replays = replays_same _ _ _ _ _ _ c.args.self.now.replays c.overwrite_file.ensures.six c.in_err-overwrite_file.ensures.err c.in_ok-reserve.ensures.items }
 
 pub invariant_of-self-2 : goal.invariant_of-self-2
 invariant_of-self-2 c =
@@ -16,7 +16,7 @@ invariant_of-self-2 c =
     let call = Wrote c.args.file c.args.at c.args.left c.args.missing in
     let pushed : c.push.new.self.items ≡ d.calls.items ++ call ∷ [] =
     has_room c.push.result _ _ _ _ _ c.push.ensures.items c.push.ensures.full c.in_ok-reserve.ensures.ok ∙ ap (λ (l : List DeviceCall). l ++ call ∷ []) c.in_ok-reserve.ensures.items in
-    let changes : Changes c.args.file (Holds c.args.at c.args.left.items) (contents d.current) (contents c.overwrite_file.new.files) = rw (← c.deref.ensures.value) c.in_default.ensures.ok in
+    let changes : Changes c.args.file (Holds c.args.at c.args.left.items) (contents d.current) (contents c.overwrite_file.new.files) = rw (← c.deref.ensures.value) c.in_ok-overwrite_file.ensures.ok in
     let after = replays_wrote d.first d.current d.known d.calls.items d.replays c.args.file c.args.at c.args.left c.args.missing c.overwrite_file.new.files c.requires.file c.overwrite_file.ensures.six c.requires.place changes in
     record { replays = subst (Replays d.first c.overwrite_file.new.files d.known) (sym pushed) after }
 
@@ -26,5 +26,5 @@ returns-clause-writes c =
     let call = Wrote c.args.file c.args.at c.args.left c.args.missing in
     let pushed : c.push.new.self.items ≡ d.calls.items ++ call ∷ [] =
     has_room c.push.result _ _ _ _ _ c.push.ensures.items c.push.ensures.full c.in_ok-reserve.ensures.ok ∙ ap (λ (l : List DeviceCall). l ++ call ∷ []) c.in_ok-reserve.ensures.items in
-    let changes : Changes c.args.file (Holds c.args.at c.args.left.items) (contents d.current) (contents c.overwrite_file.new.files) = rw (← c.deref.ensures.value) c.in_default.ensures.ok in
+    let changes : Changes c.args.file (Holds c.args.at c.args.left.items) (contents d.current) (contents c.overwrite_file.new.files) = rw (← c.deref.ensures.value) c.in_ok-overwrite_file.ensures.ok in
     record { first = refl; cases = inr record { left = c.args.left; missing = c.args.missing; length_is = refl; calls = pushed; files = changes } }

@@ -1,4 +1,4 @@
-use super::words::{Command, command_of};
+use super::{Command, command_of};
 use ss_records::{Config, Mode};
 use std::test::Fail;
 
@@ -7,8 +7,8 @@ const DEFAULTS: Config = Config {
     depth: 3600,
     threshold: 4500,
     batch: 256,
-    rows: 4294967295,
-    limit: 1099511627776,
+    rows: 4_294_967_295,
+    limit: 1_099_511_627_776,
 };
 
 // Settings, with this depth.
@@ -38,7 +38,7 @@ fn words_are_read_or_the_first_at_fault_is_named(rt: HostRuntime) -> Result<(), 
         ("init mode=discard depth=+1", Err(2)),
         (
             "init mode=discard depth=4611686018427387904",
-            Ok(with_depth(4611686018427387904)),
+            Ok(with_depth(4_611_686_018_427_387_904)),
         ),
         ("init mode=discard depth=4611686018427387905", Err(2)),
         ("init mode=discard depth=18446744073709551616", Err(2)),
@@ -56,7 +56,7 @@ fn words_are_read_or_the_first_at_fault_is_named(rt: HostRuntime) -> Result<(), 
                 threshold: 1,
                 batch: 4096,
                 rows: 1,
-                limit: 65536,
+                limit: 65_536,
             })),
         ),
     ];

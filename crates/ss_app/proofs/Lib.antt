@@ -1,5 +1,6 @@
 pub mod Apart
 pub mod Appending
+pub mod CidDigits
 pub mod ClientViews
 pub mod Clients
 pub mod Endings

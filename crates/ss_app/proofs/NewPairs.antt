@@ -1,6 +1,6 @@
 -- The new pairs of a parcel, found one after another and told by their places.
 use Rattle.std.proofs.Common.{◌≡◌, ℕ, zero, suc, ◌+◌, ◌<◌, ◌≤◌, Bool, true, false, true≢false, cond, List, [], ◌∷◌, ◌++◌, length, drop, Some, refl, sym, ap, ◌∙◌, append_assoc, arith}
-use Rattle.std.specs.Prelude.{◌==◌, ◌||◌, map, is_some, slice_get, All}
+use Rattle.std.specs.Prelude.{◌==◌, ◌||◌, not, map, is_some, slice_get, All}
 use Rattle.std.specs.Ordering.{nat_cmp, eq_by_cmp}
 use Rattle.std.specs.Cmp.{eq_by_cmp_equiv}
 use Rattle.std.specs.Cmp.Lexicographic.{slice_cmp, nat_list_cmp_total}
@@ -64,7 +64,7 @@ pub record IsWalked (hot : CidSet) (pairs : List (List ℕ × List ℕ)) (met : 
   pub known : CidSet
   pub are_at : ArePairsAt pairs places so_far
   pub split : new_pairs hot pairs ≡ so_far ++ new_pairs known (drop i pairs)
-  pub alike : i < length pairs → (c : List ℕ) → finite_set.contains known c ≡ (finite_set.contains hot c || contains (slice_cmp nat_cmp) met c)
+  pub alike : (c : List ℕ) → finite_set.contains known c ≡ (finite_set.contains hot c || contains (slice_cmp nat_cmp) met c)
 
 or-false : (b : Bool) → b ≡ (b || false)
 or-false true = refl
@@ -77,7 +77,7 @@ none_walked hot pairs met none = record {
   known = hot;
   are_at = refl;
   split = refl;
-  alike = λ within c. rw none (or-false (finite_set.contains hot c));
+  alike = λ c. rw none (or-false (finite_set.contains hot c));
 }
 
 -- the pair at the next place, and those behind it
@@ -90,21 +90,33 @@ unfolding is_left_out
 from_here known pairs i p a out at has left =
     ap (new_pairs known) (next_pair pairs i p at) ∙ ap (picked known p (drop (i + 1) pairs)) (ap (λ b. is_some (identity_of p.0) || b) has ∙ left)
 
--- what a test of a pair says, in the words of the index
-pub told : (places : CidMap Place) (met : BTreeSet (List ℕ)) (c : List ℕ) (out said : Bool) → out ≡ (is_some (identity_of c) || (is_some (finite_map.get places c) || contains (slice_cmp nat_cmp) met c)) → out ≡ said
-    → (is_some (identity_of c) || (finite_set.contains (cids_of places) c || contains (slice_cmp nat_cmp) met c)) ≡ said
-told places met c out said is says = ap (λ hot. is_some (identity_of c) || (hot || contains (slice_cmp nat_cmp) met c)) (cids_known places c) ∙ sym is ∙ says
+or_left : (a b m : Bool) → (a || (b || m)) ≡ ((a || b) || m)
+or_left true b m = refl
+or_left false b m = refl
+
+-- what the two tests of a pair say, in the words of the index: whether it is old wherever it stands, and whether it was met
+pub told : (places : CidMap Place) (met : BTreeSet (List ℕ)) (c : List ℕ) (out old said : Bool) → out ≡ (is_some (identity_of c) || is_some (finite_map.get places c)) → out ≡ old → contains (slice_cmp nat_cmp) met c ≡ said
+    → (is_some (identity_of c) || (finite_set.contains (cids_of places) c || contains (slice_cmp nat_cmp) met c)) ≡ (old || said)
+told places met c out old said is says has =
+    ap (λ hot. is_some (identity_of c) || (hot || contains (slice_cmp nat_cmp) met c)) (cids_known places c)
+    ∙ or_left (is_some (identity_of c)) (is_some (finite_map.get places c)) (contains (slice_cmp nat_cmp) met c)
+    ∙ (λ k. (sym is ∙ says) k || has k)
+
+-- what was added was not there, and what was not added was
+pub was_there : (there added : Bool) → added ≡ not there → there ≡ not added
+was_there true added is = ap not (sym is)
+was_there false added is = ap not (sym is)
 
 -- a pair that is left out
-pub old_walked : (hot : CidSet) (pairs : List (List ℕ × List ℕ)) (met : BTreeSet (List ℕ)) (places : List ℕ) (i : ℕ) (p : List ℕ × List ℕ)
+pub old_walked : (hot : CidSet) (pairs : List (List ℕ × List ℕ)) (met more : BTreeSet (List ℕ)) (places : List ℕ) (i : ℕ) (p : List ℕ × List ℕ)
     → slice_get pairs i ≡ Some p → (is_some (identity_of p.0) || (finite_set.contains hot p.0 || contains (slice_cmp nat_cmp) met p.0)) ≡ true
-    → IsWalked hot pairs met places i → IsWalked hot pairs met places (i + 1)
-old_walked hot pairs met places i p at old walked = record {
+    → more.keys ≡ met.keys → IsWalked hot pairs met places i → IsWalked hot pairs more places (i + 1)
+old_walked hot pairs met more places i p at old same walked = record {
   so_far = walked.so_far;
   known = walked.known;
   are_at = walked.are_at;
-  split = walked.split ∙ ap (λ rest. walked.so_far ++ rest) (from_here walked.known pairs i p _ true at (walked.alike (slice_get_within pairs i p at) p.0) old);
-  alike = λ within. walked.alike (omega arith);
+  split = walked.split ∙ ap (λ rest. walked.so_far ++ rest) (from_here walked.known pairs i p _ true at (walked.alike p.0) old);
+  alike = λ c. rw same (walked.alike c);
 }
 
 -- one more CID is met
@@ -113,21 +125,21 @@ met_more true true b = refl
 met_more true false b = refl
 met_more false a b = refl
 
--- a pair that is new, and whose CID is met from then on where pairs follow
+-- a pair that is new, and whose CID is met from then on
 pub new_walked : (hot : CidSet) (pairs : List (List ℕ × List ℕ)) (met more : BTreeSet (List ℕ)) (places : List ℕ) (i : ℕ) (p : List ℕ × List ℕ)
     → slice_get pairs i ≡ Some p → (is_some (identity_of p.0) || (finite_set.contains hot p.0 || contains (slice_cmp nat_cmp) met p.0)) ≡ false
-    → (i + 1 < length pairs → (c : List ℕ) → contains (slice_cmp nat_cmp) more c ≡ cond (eq_by_cmp (slice_cmp nat_cmp) p.0 c) true (contains (slice_cmp nat_cmp) met c))
+    → ((c : List ℕ) → contains (slice_cmp nat_cmp) more c ≡ cond (eq_by_cmp (slice_cmp nat_cmp) p.0 c) true (contains (slice_cmp nat_cmp) met c))
     → IsWalked hot pairs met places i → IsWalked hot pairs more (places ++ i ∷ []) (i + 1)
 new_walked hot pairs met more places i p at new meets walked = record {
   so_far = walked.so_far ++ p ∷ [];
   known = finite_set.insert walked.known p.0;
   are_at = pair_more pairs places walked.so_far i p at walked.are_at;
-  split = walked.split ∙ ap (λ rest. walked.so_far ++ rest) (from_here walked.known pairs i p _ false at (walked.alike (slice_get_within pairs i p at) p.0) new) ∙ sym (append_assoc walked.so_far (p ∷ []) _);
-  alike = λ within c.
+  split = walked.split ∙ ap (λ rest. walked.so_far ++ rest) (from_here walked.known pairs i p _ false at (walked.alike p.0) new) ∙ sym (append_assoc walked.so_far (p ∷ []) _);
+  alike = λ c.
       contains-insert nat_list_cmp_total walked.known p.0 c
-      ∙ (λ k. (eq_by_cmp_equiv nat_list_cmp_total).symm c p.0 k || walked.alike (omega arith) c k)
+      ∙ (λ k. (eq_by_cmp_equiv nat_list_cmp_total).symm c p.0 k || walked.alike c k)
       ∙ met_more _ (finite_set.contains hot c) (contains (slice_cmp nat_cmp) met c)
-      ∙ ap (λ b. finite_set.contains hot c || b) (sym (meets within c));
+      ∙ ap (λ b. finite_set.contains hot c || b) (sym (meets c));
 }
 
 -- all pairs have been walked

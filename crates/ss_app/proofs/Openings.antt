@@ -22,10 +22,7 @@ use Rattle.ss_hot.specs.File.{HasSettings, IsHalf, IsDamagedHalf}
 use Rattle.ss_hot.proofs.EachReading.{each_reading}
 use Rattle.ss_hot.specs.Store.{Hot, Keeps}
 use Rattle.ss_model.specs.State.{State, empty_state}
-use Rattle.ss_hot.specs.declared.fault.StoreFault.{StoreFault}
-use Rattle.ss_hot.specs.declared.fault.StoreFault.TheVariants as store
-use Rattle.ss_app.specs.declared.store.OpenFault.TheVariants as opening
-use Rattle.ss_app.specs.Opening.{open_fault_of, AreEmptyBeside}
+use Rattle.ss_app.specs.Opening.{AreEmptyBeside}
 use Rattle.ss_app.specs.Stands.{IsLeftBy, StandsFor, Serves}
 
 -- the state that records leave, in which no view is open
@@ -139,10 +136,3 @@ module _ {D : Type 0} (disk : Ghosts D) (old new : D) (limit : ℕ) (told : IsTr
   empty_still touches before left now file low high =
       let from = now_from (disk.moment old) (disk.moment new) (disk.image old) (disk.image new) (Changes 0 (λ _ _. Unit {0})) (touches.images told) left now in
       subst (λ (bytes : List ℕ). HasList limit bytes []) (sym (from.2.elsewhere file (λ is. omega (arith, low, is)))) (before from.0 from.1 file low high)
-
--- a store is told to be damaged where its hot store is
-pub damaged_so : (fault : StoreFault) (file at : ℕ) → open_fault_of fault ≡ opening.Damaged file at → fault ≡ store.Damaged file at
-damaged_so store.NoMemory file at is = absurd cc
-damaged_so store.DiskFault file at is = absurd cc
-damaged_so (store.LogFull f need room) file at is = absurd cc
-damaged_so (store.Damaged f a) file at is = cc

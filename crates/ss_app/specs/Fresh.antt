@@ -18,6 +18,6 @@ ArePairsAt pairs places chosen = map (slice_get pairs) places ≡ map Some chose
 
 -- the new blocks of a parcel: none, all of them, or these
 abbrev pub IsFresh : List (List ℕ × List ℕ) → List (List ℕ × List ℕ) → Fresh → Type 0
-IsFresh pairs new fresh.None = new ≡ []
+IsFresh pairs new fresh.Nothing = new ≡ []
 IsFresh pairs new fresh.All = (new ≡ pairs) × (1 ≤ length pairs)
-IsFresh pairs new (fresh.Some blocks) = (new ≡ blocks) × (1 ≤ length blocks)
+IsFresh pairs new (fresh.Part blocks) = (new ≡ blocks) × (1 ≤ length blocks)

@@ -4,17 +4,8 @@ use Rattle.ss_disk.specs.Disk.{Files}
 use Rattle.ss_gatelog.specs.Log.{HasList}
 use Rattle.ss_records.specs.declared.record.Config.{Config as Settings}
 use Rattle.ss_hot.specs.File.{HasSettings}
-use Rattle.ss_hot.specs.declared.fault.StoreFault.{StoreFault}
-use Rattle.ss_hot.specs.declared.fault.StoreFault.TheVariants as store
 use Rattle.ss_app.specs.declared.store.OpenFault.{OpenFault}
 use Rattle.ss_app.specs.declared.store.OpenFault.TheVariants as opening
-
--- Why a store is not opened, by the fault of its hot store: opening writes no record, so no log is full.
-abbrev pub open_fault_of : StoreFault → OpenFault
-open_fault_of store.NoMemory = opening.NoMemory
-open_fault_of store.DiskFault = opening.DiskFault
-open_fault_of (store.LogFull file need room) = opening.DiskFault
-open_fault_of (store.Damaged file at) = opening.Damaged file at
 
 -- no settings are committed in a file
 abbrev pub HasNoStore : List ℕ → Type 0

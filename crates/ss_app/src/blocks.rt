@@ -51,9 +51,9 @@ pub fn check_block(cid: &Cid, block: &[u8]) -> Result<(), BlockFault>
     }
     match check(cid, block) {
         Ok(()) => check_item(cid, block),
-        Err(HashFault::UnknownHash { code: _ }) => Err(BlockFault::UnknownHash),
-        Err(HashFault::Mismatch { got: _ }) => Err(BlockFault::Mismatch),
-        Err(HashFault::NotIdentity { at: _ }) => Err(BlockFault::Mismatch),
+        Err(HashFault::UnknownHash { .. }) => Err(BlockFault::UnknownHash),
+        Err(HashFault::Mismatch { .. }) => Err(BlockFault::Mismatch),
+        Err(HashFault::NotIdentity { .. }) => Err(BlockFault::Mismatch),
     }
 }
 

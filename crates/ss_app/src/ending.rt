@@ -90,13 +90,13 @@ impl Ending {
     {
         match self {
             Ending::Done => 0,
-            Ending::Usage { word: _ } => 2,
+            Ending::Usage { .. } => 2,
             Ending::NoMemory => 3,
             Ending::ReadFault => 4,
             Ending::DiskFault => 6,
             Ending::NoStore | Ending::StoreExists => 7,
-            Ending::Damaged { file: _, at: _ } => 8,
-            Ending::BadScript { line: _, kind: _ } => 9,
+            Ending::Damaged { .. } => 8,
+            Ending::BadScript { .. } => 9,
             Ending::TooLong => 13,
         }
     }

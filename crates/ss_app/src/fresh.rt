@@ -1,9 +1,6 @@
 //! The blocks of a parcel that are new to a store.
 
 ghost use Rattle.std.specs.Prelude.{◌≡◌, ◌<◌, ◌≤◌, ◌||◌, length, is_some, All, IfOk};
-ghost use Rattle.std.specs.Ordering.{nat_cmp};
-ghost use Rattle.std.specs.Cmp.Lexicographic.{slice_cmp};
-ghost use Rattle.std.specs.BTreeSet.{contains};
 ghost use Rattle.std.specs.FinMap as finite_map;
 ghost use Rattle.ss_cid.specs.Cid.{identity_of};
 ghost use Rattle.ss_model.specs.Lawful.{new_pairs};
@@ -18,11 +15,11 @@ use std::collections::BTreeSet;
 #[derive(Debug, Drop)]
 pub(crate) enum Fresh {
     /// No block is new.
-    None,
+    Nothing,
     /// All blocks are new, and no two have one CID.
     All,
     /// Some are: these.
-    Some(Parcel),
+    Part(Parcel),
 }
 
 /// The blocks of a parcel whose CIDs are neither identity CIDs nor hot, each where its CID first stands. They are copied only
@@ -36,12 +33,12 @@ pub(crate) fn fresh_blocks(
 {
     let places = new_places(alloc, hot, parcel)?;
     if places.is_empty() {
-        return Ok(Fresh::None);
+        return Ok(Fresh::Nothing);
     }
     if places.len() == parcel.len() {
         return Ok(Fresh::All);
     }
-    Ok(Fresh::Some(blocks_at(alloc, parcel, places.as_slice())?))
+    Ok(Fresh::Part(blocks_at(alloc, parcel, places.as_slice())?))
 }
 
 // The places of the new blocks, in order.
@@ -52,22 +49,21 @@ fn new_places(alloc: Global, hot: &HotStore, parcel: &Parcel) -> Result<Vec<usiz
     let mut places = Vec::new(alloc);
     for i in 0..parcel.len() {
         let (cid, _) = parcel.at(i);
-        if is_old(hot, &met, &cid) {
+        if is_old(hot, &cid) {
             continue;
         }
-        if i + 1 < parcel.len() {
-            met.insert(cid)?;
+        if met.insert(cid)? {
+            places.push(i)?;
         }
-        places.push(i)?;
     }
     Ok(places)
 }
 
-// Whether a block is left out: under an identity CID, or hot, or met before.
-fn is_old(hot: &HotStore, met: &BTreeSet<Cid, Global>, cid: &Cid) -> bool
-    ensures { result ≡ (is_some (identity_of cid.now) || (is_some (finite_map.get hot.now.places cid.now) || contains (slice_cmp nat_cmp) met.now cid.now)) }
+// Whether a block is left out wherever it stands: under an identity CID, or hot.
+fn is_old(hot: &HotStore, cid: &Cid) -> bool
+    ensures { result ≡ (is_some (identity_of cid.now) || is_some (finite_map.get hot.now.places cid.now)) }
 {
-    cid.identity().is_some() || hot.has(cid) || met.contains(cid)
+    cid.identity().is_some() || hot.has(cid)
 }
 
 // A copy of the blocks at these places.

@@ -13,6 +13,9 @@ use ss_cid::{Bytes, Cid, NoMemory, Parcel};
 use std::alloc::{AllocFailed, Global};
 use std::str;
 
+/// The bytes of a CID at the most.
+const CID_BYTES: usize = 72;
+
 /// A call as a script line asks for it. The view is the client's own count of its `open` lines, from 0.
 #[derive(Debug, Drop)]
 pub enum ScriptCall {
@@ -162,22 +165,27 @@ fn is_all_digits(field: &[u8]) -> bool
 
 // A CID: its bytes in hexadecimal, or its text.
 #[tactic(auto, unfolding(crate::specs::Script::cid_of))]
-fn cid(alloc: Global, field: &[u8]) -> Result<Option<Cid>, NoMemory>
-    ensures { IfOk result (λ cid. cid ≡ cid_of field.now) }
+fn cid(field: &[u8]) -> Option<Cid>
+    ensures { result ≡ cid_of field.now }
 {
     match field.first() {
-        Some(b'0') => cid_of_digits(alloc, field),
-        _ => Ok(Cid::from_text(field).ok()),
+        Some(b'0') => cid_of_digits(field),
+        _ => Cid::from_text(field).ok(),
     }
 }
 
-fn cid_of_digits(alloc: Global, field: &[u8]) -> Result<Option<Cid>, NoMemory>
-    ensures { IfOk result (λ cid. cid ≡ cid_of_digits field.now) }
+fn cid_of_digits(field: &[u8]) -> Option<Cid>
+    ensures { result ≡ cid_of_digits field.now }
 {
-    match hex::decode(alloc, field) {
-        Ok(bytes) => Ok(whole_cid(bytes.as_slice())),
-        Err(hex::FromHexError::OutOfMemory) => Err(NoMemory),
-        Err(_) => Ok(None),
+    let mut room = [0u8; CID_BYTES];
+    let len = field.len() / 2;
+    if len > CID_BYTES {
+        return None;
+    }
+    let bytes = &mut room[..len];
+    match hex::decode_to_slice(field, bytes) {
+        Ok(()) => whole_cid(bytes),
+        Err(_) => None,
     }
 }
 
@@ -225,7 +233,7 @@ fn pairs(alloc: Global, mut fields: Pieces<'_>) -> Result<Option<Parcel>, NoMemo
         let Some(bytes) = fields.next() else {
             return Ok(None);
         };
-        let Some(cid) = cid(alloc, name)? else {
+        let Some(cid) = cid(name) else {
             return Ok(None);
         };
         let Some(bytes) = block(alloc, bytes)? else {
@@ -245,25 +253,17 @@ fn open_call(mut fields: Pieces<'_>) -> Option<ScriptCall>
     }
 }
 
-fn get_call(alloc: Global, mut fields: Pieces<'_>) -> Result<Option<ScriptCall>, NoMemory>
-    ensures { IfOk result (λ call. call ≡ get_of fields.entry) }
+fn get_call(mut fields: Pieces<'_>) -> Option<ScriptCall>
+    ensures { result ≡ get_of fields.entry }
 {
-    let Some(view) = fields.next() else {
-        return Ok(None);
-    };
-    let Some(name) = fields.next() else {
-        return Ok(None);
-    };
+    let view = fields.next()?;
+    let name = fields.next()?;
     if fields.next().is_some() {
-        return Ok(None);
+        return None;
     }
-    let Some(view) = number(view) else {
-        return Ok(None);
-    };
-    match cid(alloc, name)? {
-        Some(cid) => Ok(Some(ScriptCall::Get { view, cid })),
-        None => Ok(None),
-    }
+    let view = number(view)?;
+    let cid = cid(name)?;
+    Some(ScriptCall::Get { view, cid })
 }
 
 fn put_call(alloc: Global, mut fields: Pieces<'_>) -> Result<Option<ScriptCall>, NoMemory>
@@ -294,7 +294,7 @@ fn named_call(
     } else if name == b"put".as_slice() {
         put_call(alloc, fields)
     } else if name == b"get".as_slice() {
-        get_call(alloc, fields)
+        Ok(get_call(fields))
     } else {
         Ok(None)
     }

@@ -17,7 +17,7 @@ ghost use Rattle.ss_model.specs.declared.call.PutReply.TheVariants as put;
 ghost use Rattle.ss_model.specs.declared.call.GetReply.TheVariants as get;
 ghost use Rattle.ss_app.specs.Stands.{StandsFor, Shows, Serves, views_below};
 ghost use Rattle.ss_app.specs.Room.{OfFullLog, HadRoom, end_after, doubt_after, put_doubt, get_doubt, reaches_disk, put_reaches, get_reaches};
-ghost use Rattle.ss_app.specs.Opening.{open_fault_of, HasNoStore, AreEmptyBeside, IsInitFault};
+ghost use Rattle.ss_app.specs.Opening.{HasNoStore, AreEmptyBeside, IsInitFault};
 ghost use Rattle.ss_app.specs.Puts.{IsReady, IsRefusal, IsNoneReply, IsAddReply, KeepsAdded, added_bytes};
 
 use crate::blocks::{body_bytes, first_fault, parcel_bytes};
@@ -54,21 +54,6 @@ pub struct Store {
     ghost few: { views ≤ 1024 },
 }
 
-fn open_fault(fault: StoreFault) -> OpenFault
-    ensures { result ≡ open_fault_of fault }
-{
-    match fault {
-        StoreFault::NoMemory => OpenFault::NoMemory,
-        StoreFault::DiskFault
-        | StoreFault::LogFull {
-            file: _,
-            need: _,
-            room: _,
-        } => OpenFault::DiskFault,
-        StoreFault::Damaged { file, at } => OpenFault::Damaged { file, at },
-    }
-}
-
 /// Makes a store with these settings, in which nothing is kept.
 ///
 /// First `StoreExists`, where settings are committed on the disk already; each of the other faults may stand in its place. Where
@@ -85,14 +70,18 @@ pub fn init<D: Disk>(alloc: Global, disk: &mut D, config: &Config) -> Result<(),
     match HotStore::open(alloc, disk) {
         Ok(None) => {}
         Ok(Some(_)) => return Err(OpenFault::StoreExists),
-        Err(StoreFault::Damaged { file: _, at: _ }) => return Err(OpenFault::StoreExists),
-        Err(fault) => return Err(open_fault(fault)),
+        Err(StoreFault::Damaged { .. }) => return Err(OpenFault::StoreExists),
+        Err(StoreFault::NoMemory) => return Err(OpenFault::NoMemory),
+        Err(StoreFault::DiskFault) => return Err(OpenFault::DiskFault),
+        Err(StoreFault::LogFull { .. }) => unreachable!(),
     }
     empty_files(disk, config.limit)?;
-    if let Err(fault) = HotStore::create(alloc, disk, config) {
-        return Err(open_fault(fault));
+    match HotStore::create(alloc, disk, config) {
+        Ok(_) => Ok(()),
+        Err(StoreFault::NoMemory) => Err(OpenFault::NoMemory),
+        Err(StoreFault::DiskFault) => Err(OpenFault::DiskFault),
+        Err(StoreFault::LogFull { .. } | StoreFault::Damaged { .. }) => unreachable!(),
     }
-    Ok(())
 }
 
 // Makes each file but that of the hot log an empty log, so that nothing of an older store is left there.
@@ -127,7 +116,10 @@ impl Store {
         match HotStore::open(alloc, disk) {
             Ok(Some(hot)) => Ok(Store { hot, views: 0 }),
             Ok(None) => Err(OpenFault::NoStore),
-            Err(fault) => Err(open_fault(fault)),
+            Err(StoreFault::Damaged { file, at }) => Err(OpenFault::Damaged { file, at }),
+            Err(StoreFault::NoMemory) => Err(OpenFault::NoMemory),
+            Err(StoreFault::DiskFault) => Err(OpenFault::DiskFault),
+            Err(StoreFault::LogFull { .. }) => unreachable!(),
         }
     }
 
@@ -188,9 +180,9 @@ impl Store {
             Err(NoMemory) => return PutReply::NoMemory,
         };
         match fresh {
-            Fresh::None => self.put_nothing(disk),
+            Fresh::Nothing => self.put_nothing(disk),
             Fresh::All => self.put_fresh(alloc, disk, parcel),
-            Fresh::Some(fresh) => self.put_fresh(alloc, disk, &fresh),
+            Fresh::Part(fresh) => self.put_fresh(alloc, disk, &fresh),
         }
     }
 
@@ -250,8 +242,9 @@ impl Store {
                 new: fresh.len() as u32,
             },
             Err(StoreFault::NoMemory) => PutReply::NoMemory,
-            Err(StoreFault::LogFull { file, need, room }) => PutReply::LogFull { file, need, room },
-            Err(_) => PutReply::DiskFault,
+            Err(StoreFault::DiskFault) => PutReply::DiskFault,
+            Err(StoreFault::LogFull { .. }) => unreachable!(),
+            Err(StoreFault::Damaged { .. }) => unreachable!(),
         }
     }
 
@@ -280,8 +273,9 @@ impl Store {
         match self.hot.get(alloc, disk, cid) {
             Ok(Some(block)) => GetReply::Found(block),
             Ok(None) => GetReply::NotFound,
+            Err(StoreFault::NoMemory) => GetReply::NoMemory,
             Err(StoreFault::DiskFault) => GetReply::DiskFault,
-            Err(_) => GetReply::NoMemory,
+            Err(StoreFault::LogFull { .. } | StoreFault::Damaged { .. }) => unreachable!(),
         }
     }
 

@@ -78,11 +78,11 @@ fn push_call(line: &mut String, call: &Call) -> Result<(), AllocError>
 {
     match call {
         Call::OpenView => line.push_str("open"),
-        Call::Put { view, parcel: _ } => {
+        Call::Put { view, .. } => {
             line.push_str("put ")?;
             push_view(line, *view)
         }
-        Call::Get { view, cid: _ } => {
+        Call::Get { view, .. } => {
             line.push_str("get ")?;
             push_view(line, *view)
         }
@@ -157,6 +157,8 @@ fn push_bytes(alloc: Global, line: &mut String, bytes: &[u8]) -> Result<(), Allo
     if bytes.is_empty() {
         line.push_str("-")
     } else {
+        // The room for the digits and the line's end, at once: else the line may grow by copies of a whole block.
+        line.reserve(2 * bytes.len() + 1)?;
         let digits = hex::encode(alloc, bytes)?;
         line.push_str(digits.as_str())
     }

@@ -42,19 +42,19 @@ returns-in-Ok-Some-clause-serves g c = λ s told serves.
 pub returns-in-Ok-Some-clause-touches : goal.returns-in-Ok-Some-clause-touches
 returns-in-Ok-Some-clause-touches g c = then_same g.D.Disk c.args.disk.now c.settle.new.disk c.get.new.disk (Changes 0 (λ _ _. Unit {0})) c.settle.ensures.touches c.get.ensures.goes
 
-pub returns-in-Err-clause-lawful : goal.returns-in-Err-clause-lawful
-returns-in-Err-clause-lawful g c = λ s told serves. (
+pub returns-in-Err-NoMemory-clause-lawful : goal.returns-in-Err-NoMemory-clause-lawful
+returns-in-Err-NoMemory-clause-lawful g c = λ s told serves. (
   sym (c.if-not-is_open.ensures s serves.views_are),
   is_fetched s.kept (hot_blocks serves.records) c.args.cid.now c.in_default.ensures serves.state.kept (c.if-not-has.ensures.block serves.records serves.keeps.tells),
 )
 
-pub returns-in-Err-clause-serves : goal.returns-in-Err-clause-serves
-returns-in-Err-clause-serves g c = λ s told serves.
+pub returns-in-Err-NoMemory-clause-serves : goal.returns-in-Err-NoMemory-clause-serves
+returns-in-Err-NoMemory-clause-serves g c = λ s told serves.
     serves_on g.D.Disk c.settle.new.disk c.get.new.disk c.settle.new.self c.args.self.now.views s told c.get.ensures.goes
     (serves_still g.D.Disk c.args.disk.now c.settle.new.disk c.args.self.now.hot c.settle.new.self c.args.self.now.views s c.settle.ensures.same (λ records others. c.settle.ensures.kept records others told) serves)
 
-pub returns-in-Err-clause-touches : goal.returns-in-Err-clause-touches
-returns-in-Err-clause-touches g c = then_same g.D.Disk c.args.disk.now c.settle.new.disk c.get.new.disk (Changes 0 (λ _ _. Unit {0})) c.settle.ensures.touches c.get.ensures.goes
+pub returns-in-Err-NoMemory-clause-touches : goal.returns-in-Err-NoMemory-clause-touches
+returns-in-Err-NoMemory-clause-touches g c = then_same g.D.Disk c.args.disk.now c.settle.new.disk c.get.new.disk (Changes 0 (λ _ _. Unit {0})) c.settle.ensures.touches c.get.ensures.goes
 
 pub returns-in-Err-DiskFault-clause-lawful : goal.returns-in-Err-DiskFault-clause-lawful
 returns-in-Err-DiskFault-clause-lawful g c = λ s told serves. (

@@ -1,6 +1,6 @@
-use Rattle.std.proofs.Common.{◌≡◌, Ok, Err, sym, ap, ◌∙◌}
-use Rattle.ss_app.specs.declared.store.OpenFault.TheVariants as opening
-use Rattle.ss_app.proofs.Openings.{opened, damaged_so}
+use Rattle.std.proofs.Common.{◌≡◌, Ok, Err, ap, ◌∙◌}
+use Rattle.ss_hot.specs.declared.fault.StoreFault.TheVariants as store
+use Rattle.ss_app.proofs.Openings.{opened}
 use Rattle.ss_app.proofs.store.Store.open.Goals as goal
 
 pub returns-in-Ok-Some-clause-serves : goal.returns-in-Ok-Some-clause-serves
@@ -11,7 +11,8 @@ returns-in-Ok-Some-clause-serves g c = λ told.
 pub returns-in-Ok-None-clause-no_store : goal.returns-in-Ok-None-clause-no_store
 returns-in-Ok-None-clause-no_store g c = λ is told. c.in-Ok-None.ensures.none told (ap Ok c.in-Ok-None.field-0-is)
 
-pub returns-in-Err-clause-damaged : goal.returns-in-Err-clause-damaged
-returns-in-Err-clause-damaged g c = λ file at is.
-    let here : c.open_fault.result ≡ opening.Damaged file at = cc in
-    c.in-Err.ensures.damaged file at (ap Err (damaged_so c.in-Err.fault file at (sym c.open_fault.ensures ∙ here)))
+pub returns-in-Err-Damaged-clause-damaged : goal.returns-in-Err-Damaged-clause-damaged
+returns-in-Err-Damaged-clause-damaged g c = λ file at is.
+    let same_file : c.in-Err-Damaged.file ≡ file = cc in
+    let same_at : c.in-Err-Damaged.at ≡ at = cc in
+    c.in-Err-Damaged.ensures.damaged file at (ap Err (c.in-Err-Damaged.field-0-is ∙ (λ k. store.Damaged (same_file k) (same_at k))))

@@ -1,6 +1,5 @@
 use Rattle.std.proofs.Common.{◌≡◌, [], ◌∷◌, ◌++◌, false, Err, sym, ap, ◌∙◌, arith}
 use Rattle.ss_disk.proofs.Goes.{touches_on}
-use Rattle.ss_records.specs.declared.record.Config.{Config as Settings}
 use Rattle.ss_records.specs.declared.record.Record.TheVariants as record_kind
 use Rattle.ss_model.proofs.Need.{record_takes}
 use Rattle.ss_app.proofs.Serving.{keeps_sure, same_end, same_limit, when_ok}
@@ -24,39 +23,24 @@ returns-in-Ok-clause-end g c = omega (arith, c.in-Ok.ensures.end, same_end c.arg
 pub returns-in-Ok-clause-touches : goal.returns-in-Ok-clause-touches
 returns-in-Ok-clause-touches g c = touches_on g.D.Disk 0 c.args.disk.now c.settle.new.disk c.put_batch.new.disk c.settle.ensures.touches c.put_batch.ensures.touches
 
+-- there was room for the record
+pub unreachable-requires : goal.unreachable-requires
+unreachable-requires g c =
+    let e = c.in-Err-LogFull in
+    let full = e.ensures.full e.field-0-0 e.field-0-1 e.field-0-2 (ap Err e.field-0-is) in
+    let end = same_end c.args.self.now.hot c.settle.new.self c.settle.ensures.same in
+    let limit = same_limit c.args.self.now.hot c.settle.new.self c.settle.ensures.same in
+    omega (arith, full.1, full.2, full.3, record_takes c.args.fresh.now, end, limit, c.room-room.ensures.room, c.body_bytes-need.ensures, c.if-need-room.false)
+
 pub returns-in-Err-NoMemory-clause-kept : goal.returns-in-Err-NoMemory-clause-kept
 returns-in-Err-NoMemory-clause-kept g c = λ records others told keeps.
     let sure = when_ok c.settle.result (c.settle.new.self.log.unsure ≡ false) (sym c.is_err.ensures.value ∙ c.if-is_err.false) c.settle.ensures.settled in
     (records ++ record_kind.Put c.args.fresh.now ∷ [], c.in-Err-NoMemory.ensures.failed records told (keeps_sure g.D.Disk c.settle.new.disk c.settle.new.self records others records sure (c.settle.ensures.kept records others told keeps)))
 
-pub returns-in-Err-LogFull-clause-reply : goal.returns-in-Err-LogFull-clause-reply
-returns-in-Err-LogFull-clause-reply g c =
-    let e = c.in-Err-LogFull in
-    let full = e.ensures.full e.file e.need e.room (ap Err e.field-0-is) in (
-      omega (arith, ap (λ (settings : Settings). settings.rows) c.config.ensures),
-      full.0,
-      omega (arith, full.1, record_takes c.args.fresh.now),
-      omega (arith, full.2, same_end c.args.self.now.hot c.settle.new.self c.settle.ensures.same, same_limit c.args.self.now.hot c.settle.new.self c.settle.ensures.same, c.room-room.ensures.limit),
-      full.3,
-    )
-
-pub returns-in-Err-LogFull-clause-still : goal.returns-in-Err-LogFull-clause-still
-returns-in-Err-LogFull-clause-still g c = λ still.
-    let e = c.in-Err-LogFull in
-    let full = e.ensures.full e.file e.need e.room (ap Err e.field-0-is) in
-    let end = same_end c.args.self.now.hot c.settle.new.self c.settle.ensures.same in
-    let limit = same_limit c.args.self.now.hot c.settle.new.self c.settle.ensures.same in
-    absurd (omega (arith, full.1, full.2, full.3, record_takes c.args.fresh.now, end, limit, c.room-room.ensures.room, c.body_bytes-need.ensures, c.if-need-room.false))
-
-pub returns-in-Err-LogFull-clause-kept : goal.returns-in-Err-LogFull-clause-kept
-returns-in-Err-LogFull-clause-kept g c = λ records others told keeps.
+pub returns-in-Err-DiskFault-clause-kept : goal.returns-in-Err-DiskFault-clause-kept
+returns-in-Err-DiskFault-clause-kept g c = λ records others told keeps.
     let sure = when_ok c.settle.result (c.settle.new.self.log.unsure ≡ false) (sym c.is_err.ensures.value ∙ c.if-is_err.false) c.settle.ensures.settled in
-    (records ++ record_kind.Put c.args.fresh.now ∷ [], c.in-Err-LogFull.ensures.failed records told (keeps_sure g.D.Disk c.settle.new.disk c.settle.new.self records others records sure (c.settle.ensures.kept records others told keeps)))
+    (records ++ record_kind.Put c.args.fresh.now ∷ [], c.in-Err-DiskFault.ensures.failed records told (keeps_sure g.D.Disk c.settle.new.disk c.settle.new.self records others records sure (c.settle.ensures.kept records others told keeps)))
 
-pub returns-in-Err-clause-kept : goal.returns-in-Err-clause-kept
-returns-in-Err-clause-kept g c = λ records others told keeps.
-    let sure = when_ok c.settle.result (c.settle.new.self.log.unsure ≡ false) (sym c.is_err.ensures.value ∙ c.if-is_err.false) c.settle.ensures.settled in
-    (records ++ record_kind.Put c.args.fresh.now ∷ [], c.in-Err.ensures.failed records told (keeps_sure g.D.Disk c.settle.new.disk c.settle.new.self records others records sure (c.settle.ensures.kept records others told keeps)))
-
-pub returns-in-Err-clause-touches : goal.returns-in-Err-clause-touches
-returns-in-Err-clause-touches g c = touches_on g.D.Disk 0 c.args.disk.now c.settle.new.disk c.put_batch.new.disk c.settle.ensures.touches c.put_batch.ensures.touches
+pub returns-in-Err-DiskFault-clause-touches : goal.returns-in-Err-DiskFault-clause-touches
+returns-in-Err-DiskFault-clause-touches g c = touches_on g.D.Disk 0 c.args.disk.now c.settle.new.disk c.put_batch.new.disk c.settle.ensures.touches c.put_batch.ensures.touches

@@ -206,7 +206,8 @@ fn all_of(cid: Cid, len: usize, bytes: &[u8]) -> Option<Cid>
     if len == bytes.len() { Some(cid) } else { None }
 }
 
-// The bytes of a block.
+// The bytes of a block. Their digits are most of a script, and its loop is slower where it is inlined into others.
+#[inline(never)]
 #[tactic(auto, unfolding(crate::specs::Script::data_of))]
 fn block(alloc: Global, field: &[u8]) -> Result<Option<Bytes>, NoMemory>
     ensures { IfOk result (λ b. b ≡ data_of field.now) }

@@ -10,8 +10,8 @@ use std::marker::Model;
 /// The most bytes that a head has.
 const MAX_HEAD: usize = 9;
 
-/// Writes items part by part, each head in its shortest form. The caller sees to it that as many items follow
-/// an array or a map as it holds. Where memory is wanting, what was written stays as it was.
+/// Writes items part by part, each head in its shortest form. The caller makes sure that as many items follow
+/// an array or a map as it holds. Out of memory, what was written stays as it was.
 #[derive(Debug, Drop)]
 pub struct Writer {
     out: Vec<u8>,

@@ -6,3 +6,4 @@ pub mod Codec
 pub mod Base32
 pub mod Text
 pub mod Parcel
+pub mod Maps

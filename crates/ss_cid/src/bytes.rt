@@ -38,7 +38,7 @@ impl Bytes {
         })
     }
 
-    /// Appends a slice. Where memory is wanting, the bytes stay as they were.
+    /// Appends a slice. Out of memory, the bytes stay as they were.
     pub fn extend(&mut self, bytes: &[u8]) -> Result<(), NoMemory>
         ensures ok { OnOk result (self.new ≡ self.old ++ bytes.now) }
         ensures err { OnErr result (self.new ≡ self.old) }

@@ -8,10 +8,10 @@ ghost use Rattle.ss_cid.specs.Text.{cid_text, cid_from_text};
 ghost use Rattle.ss_cid.specs.Varint.{varint};
 ghost use Rattle.ss_cid.specs.Codec.{codec_named, hash_named};
 
+use crate::cid_buffer::CidBuffer;
 use crate::codec::{Codec, HASH_IDENTITY, HashCode};
 use crate::fault::CidFault;
-use crate::head::{Head, MAX_LEN, read_head};
-use crate::room::Room;
+use crate::head::{CID_BYTES, Head, read_head};
 use crate::text::{read_text, write_text};
 use std::cmp::Ordering;
 use std::marker::Model;
@@ -22,7 +22,7 @@ use std::marker::Model;
 /// text.
 #[derive(Clone, Copy)]
 pub struct Cid {
-    room: Room,
+    room: CidBuffer,
 }
 
 impl Model for Cid {
@@ -52,7 +52,7 @@ impl Cid {
         ensures within { IfOk result (λ found. (found.1 ≡ length found.0) × (found.1 ≤ length bytes.now)) }
     {
         let head = read_head(bytes)?;
-        let mut room = Room::new();
+        let mut room = CidBuffer::new();
         room.extend(&bytes[..head.end]);
         Ok((Cid { room }, head.end))
     }
@@ -67,7 +67,7 @@ impl Cid {
         ensures cid { IfOk result IsCid }
     {
         let mut room = prefix(codec, hash, digest.len() as u64);
-        if digest.len() > MAX_LEN - room.len() {
+        if digest.len() > CID_BYTES - room.len() {
             return Err(CidFault::TooLong {
                 len: digest.len() as u64,
             });
@@ -174,14 +174,14 @@ impl Cid {
 }
 
 /// What stands in front of a digest of `len` bytes.
-fn prefix(codec: u64, hash: u64, len: u64) -> Room
+fn prefix(codec: u64, hash: u64, len: u64) -> CidBuffer
     requires codec_fits { codec < 2 ^ 63 }
     requires hash_fits { hash < 2 ^ 63 }
     requires len_fits { len < 2 ^ 63 }
     ensures value { result ≡ varint 1 ++ (varint codec ++ (varint hash ++ varint len)) }
     ensures short { length result ≤ 36 }
 {
-    let mut room = Room::new();
+    let mut room = CidBuffer::new();
     room.push_varint(1);
     room.push_varint(codec);
     room.push_varint(hash);

@@ -34,7 +34,7 @@ impl Cids {
         }
     }
 
-    /// Appends a CID. Where memory is wanting, the list stays as it was.
+    /// Appends a CID. Out of memory, the list stays as it was.
     pub fn push(&mut self, cid: Cid) -> Result<(), NoMemory>
         ensures ok { OnOk result (self.new ≡ self.old ++ cid ∷ []) }
         ensures err { OnErr result (self.new ≡ self.old) }

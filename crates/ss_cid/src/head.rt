@@ -6,7 +6,7 @@ use crate::fault::CidFault;
 use crate::varint::varint_at;
 
 /// The most bytes that a CID has.
-pub const MAX_LEN: usize = 72;
+pub const CID_BYTES: usize = 72;
 
 /// The parts of the CID that some bytes begin with.
 #[derive(Clone, Copy)]
@@ -60,7 +60,7 @@ fn digest_end(bytes: &[u8], len: u64, at: usize) -> Result<usize, CidFault>
     ensures value { result ≡ digest_end bytes.now len at }
     ensures within { IfOk result (λ end. (at ≤ end) × (end ≤ 72) × (end ≤ length bytes.now)) }
 {
-    if at > MAX_LEN || len > (MAX_LEN - at) as u64 {
+    if at > CID_BYTES || len > (CID_BYTES - at) as u64 {
         return Err(CidFault::TooLong { len });
     }
     let end = at + len as usize;

@@ -13,13 +13,14 @@
 //! and the text that of multibase with base32 by RFC 4648. That a CID has at most 72 bytes, that
 //! version 0 is refused and that CIDs are ordered as their bytes is this project's own.
 //!
-//! [`Bytes`], [`Cids`] and [`Parcel`] own memory. A call of theirs that finds none answers
+//! [`Bytes`], [`Cids`] and [`Parcel`] own memory. A call of theirs that runs out of it answers
 //! [`NoMemory`] and leaves the list as it was. No call of [`Cid`] and no varint call takes memory.
 #![tactic(auto)]
 
 mod bits;
 mod bytes;
 mod cid;
+mod cid_buffer;
 mod cids;
 mod codec;
 mod display;
@@ -30,7 +31,6 @@ pub mod laws;
 mod memory;
 mod order;
 mod parcel;
-mod room;
 #[cfg(test)]
 mod tests;
 mod text;
@@ -44,6 +44,7 @@ pub use codec::{
     HASH_IDENTITY, HASH_SHA2_256, HashCode,
 };
 pub use fault::CidFault;
+pub use head::CID_BYTES;
 pub use memory::NoMemory;
 pub use parcel::Parcel;
 pub use varint::{read_varint, write_varint};

@@ -1,11 +1,11 @@
-//! Want of memory.
+//! The answer of a call that ran out of memory.
 ghost use Rattle.std.specs.Prelude.{◌≡◌};
 
 use std::alloc::{AllocError, AllocFailed};
 use std::error::Error;
 use std::fmt;
 
-/// The memory that a call wanted was not there. A call that answers it leaves its object as it was.
+/// A call ran out of memory. A call that answers it leaves its object as it was.
 #[derive(Clone, Copy, Debug, PartialEq, Eq, Hash)]
 pub struct NoMemory;
 

@@ -52,7 +52,7 @@ impl Parcel {
         }
     }
 
-    /// Appends a block. Where memory is wanting, or the parcel holds 2^32 - 1 pairs, it stays as it
+    /// Appends a block. Out of memory, or where the parcel holds 2^32 - 1 pairs, it stays as it
     /// was.
     pub fn add(&mut self, cid: Cid, bytes: &[u8]) -> Result<(), NoMemory>
         ensures ok { OnOk result (self.new ≡ self.old ++ (cid, bytes.now) ∷ []) }

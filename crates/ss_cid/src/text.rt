@@ -4,8 +4,8 @@ ghost use Rattle.ss_cid.specs.Base32.{letter, is_letter, letter_value};
 ghost use Rattle.ss_cid.specs.Text.{cid_text, letters_bytes, text_bytes};
 
 use crate::bits::Bits;
+use crate::cid_buffer::CidBuffer;
 use crate::fault::CidFault;
-use crate::room::Room;
 
 /// The sign of base32 in lower case without padding.
 const SIGN: u8 = b'b';
@@ -31,7 +31,7 @@ pub fn write_text(bytes: &[u8], out: &mut [u8; 120]) -> usize
     count + 1
 }
 
-/// Sees to it that there are bits for a character: those of the byte at place `taken`, and zeros
+/// Makes sure that there are bits for a character: those of the byte at place `taken`, and zeros
 /// behind the last byte.
 fn refill(bits: &mut Bits, bytes: &[u8], taken: usize) -> usize
     requires few { bits.old.len < 8 }
@@ -62,7 +62,7 @@ fn letter(value: u32) -> u8
 }
 
 /// The bytes that a text spells, or the first fault. There are at most 72.
-pub fn read_text(text: &[u8]) -> Result<Room, CidFault>
+pub fn read_text(text: &[u8]) -> Result<CidBuffer, CidFault>
     ensures { result ≡ text_bytes text.now }
 {
     let Some((first, letters)) = text.split_first() else {
@@ -78,11 +78,11 @@ pub fn read_text(text: &[u8]) -> Result<Room, CidFault>
 }
 
 /// The bytes that the characters behind the sign spell.
-fn read_letters(letters: &[u8]) -> Result<Room, CidFault>
+fn read_letters(letters: &[u8]) -> Result<CidBuffer, CidFault>
     requires { length letters.now ≤ 116 }
     ensures { result ≡ letters_bytes letters.now }
 {
-    let mut room = Room::new();
+    let mut room = CidBuffer::new();
     let mut bits = Bits::new();
     for (k, c) in letters.iter().enumerate() {
         let Some(value) = letter_value(*c) else {
@@ -103,7 +103,7 @@ fn read_letters(letters: &[u8]) -> Result<Room, CidFault>
 }
 
 /// Moves a byte out of the bits, where there are enough.
-fn spill(bits: &mut Bits, room: &mut Room)
+fn spill(bits: &mut Bits, room: &mut CidBuffer)
     requires few { bits.old.len < 16 }
     requires room { length room.old < 72 }
     ensures kept { bits.old.len < 8 → (bits.new ≡ bits.old) × (room.new ≡ room.old) }

@@ -278,3 +278,21 @@ replays_known first current known calls file n six has replays = record {
     | inr other ↦ subst (λ (k : ℕ). k ≤ length (contents current g)) (sym (get_or-set_other known file g n 0 other)) (replays.within g)
   ];
 }
+
+-- a call that syncs nothing
+abbrev pub IsPending : DeviceCall → Type 0
+IsPending Asked = Unit {0}
+IsPending (Wrote file at left missing) = Unit {0}
+IsPending (Synced file) = ⊥
+
+left_pending : (first : List ℕ) (earlier : List DeviceCall) (call : DeviceCall) (bytes : List ℕ) → IsPending call → MayLeave first earlier bytes → MayLeave first (call ∷ earlier) bytes
+left_pending first earlier Asked bytes pending left = left
+left_pending first earlier (Wrote file at l missing) bytes pending left = (bytes, left, torn_same at (length l.items + missing) bytes)
+left_pending first earlier (Synced file) bytes pending left = absurd pending
+
+-- what a crash might leave it may leave after a call that syncs nothing
+pub image_pending : (first : List (Vec ℕ Global)) (calls : List DeviceCall) (call : DeviceCall) → IsPending call → (left : Files) → Image first calls left → Image first (calls ++ call ∷ []) left
+image_pending first calls call pending left image file = elim (story_push file calls call) [
+  | inl on ↦ subst (λ (s : List DeviceCall). MayLeave (contents first file) s (left file)) (sym on.1) (left_pending (contents first file) (story file calls) call (left file) pending (image file))
+  | inr off ↦ subst (λ (s : List DeviceCall). MayLeave (contents first file) s (left file)) (sym off.1) (image file)
+]

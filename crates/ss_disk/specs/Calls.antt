@@ -3,7 +3,7 @@ use Rattle.std.specs.Prelude.{◌≡◌, ◌≤◌, ℕ, List, IsTrue}
 use Rattle.ss_disk.specs.declared.disk.Disk.{Ghosts}
 use Rattle.ss_disk.specs.Disk.{Files, Changes, Evolves}
 
--- Calls took a disk from one state to another. Where it tells its files, they and each image went by this step. No known
+-- Calls took a disk from one state to another. Where it exposes its files, they and each image went by this step. No known
 -- length fell, nor the count of faults, and what the disk borrows stayed.
 pub record Goes {D : Type 0} (disk : Ghosts D) (step : Files → Files → Type 0) (old new : D) : Type 0 where
   pub files : IsTrue disk.told → step (disk.files old) (disk.files new)

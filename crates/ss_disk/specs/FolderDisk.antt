@@ -1,5 +1,5 @@
 -- What contracts see of a disk over a folder: its known lengths and its count of faults, and nothing of its files.
-use Rattle.std.specs.Prelude.{◌≡◌, ℕ, None, IsSome, slice_index, slice_index_or}
+use Rattle.std.specs.Prelude.{◌≡◌, ℕ, None, false, IsSome, IsTrue, slice_index, slice_index_or}
 use Rattle.ss_disk.specs.declared.folder.FolderDisk.{FolderDisk}
 
 abbrev pub known_of : {R : Type 0} → FolderDisk R → ℕ → ℕ
@@ -12,7 +12,12 @@ faults_of disk = disk.faults
 abbrev pub IsOpen : {R : Type 0} → FolderDisk R → ℕ → Type 0
 IsOpen disk file = IsSome (slice_index_or disk.files file None)
 
--- no known length changed, and no fault was counted
-pub record SameLengths {R : Type 0} (old new : FolderDisk R) : Type 0 where
+-- a sync of the file has failed
+abbrev pub HasLost : {R : Type 0} → FolderDisk R → ℕ → Type 0
+HasLost disk file = IsTrue (slice_index_or disk.lost file false)
+
+-- The system was asked: no known length changed, no fault was counted, and no sync that failed is forgotten.
+pub record Asks {R : Type 0} (old new : FolderDisk R) : Type 0 where
   pub known : new.known ≡ old.known
   pub faults : new.faults ≡ old.faults
+  pub lost : (file : ℕ) → HasLost old file → HasLost new file

@@ -51,6 +51,10 @@ pub record SameButListed (old new : MemoryDisk) : Type 0 where
   pub known : (file : ℕ) → slice_index new.known file ≡ slice_index old.known file
   pub faults : new.faults ≡ old.faults
 
+-- each image that a crash might leave before a call can be left after it
+abbrev pub KeepsImages : MemoryDisk → MemoryDisk → Type 0
+KeepsImages old new = (left : Files) → image_of old (moment_of old) left → image_of new (moment_of new) left
+
 -- a call that changes no file joined the record, or there was no memory for it
 pub record Notes (call : DeviceCall) (old new : MemoryDisk) : Type 0 where
   pub first : new.first ≡ old.first

@@ -12,7 +12,7 @@ pub(crate) const FILES: usize = 6;
 /// log of meta records and the log of moves. Each call that does not do what it was asked to do
 /// answers `DiskFault` and raises the count of faults, unless that stands at its last value.
 pub trait Disk {
-    // Whether this disk tells what its files hold. A disk over an operating system's folder can't.
+    // Whether this disk exposes what its files hold. A disk over an operating system's folder can't.
     ghost told: { Bool };
 
     // What a read gives, file by file.
@@ -24,7 +24,7 @@ pub trait Disk {
     // The files that a crash at a moment may leave.
     ghost image: { Self → ℕ → Files → Type 0 };
 
-    // How many bytes of a file are known to be there: the ends of writes, and sizes that were told.
+    // How many bytes of a file are known to be there: the ends of writes, and sizes that were answered.
     ghost known: { Self → ℕ → ℕ };
 
     ghost faults: { Self → ℕ };

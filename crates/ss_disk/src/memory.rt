@@ -1,4 +1,4 @@
-ghost use Rattle.std.specs.Prelude.{◌≡◌, ◌+◌, ◌^◌, ◌<◌, ◌≤◌, ◌↔◌, ◌++◌, [], ◌∷◌, ℕ, true, length, take, IsTrue, IsOk, slice_index, slice_range, Contains, vec_len, MatchResult, IfOk, OnOk, OnErr};
+ghost use Rattle.std.specs.Prelude.{◌≡◌, ◌+◌, ◌^◌, ◌<◌, ◌≤◌, ◌↔◌, ◌++◌, [], ◌∷◌, ℕ, true, length, take, IsTrue, IsOk, IsErr, slice_index, slice_range, Contains, vec_len, MatchResult, IfOk, OnOk, OnErr};
 ghost use Rattle.ss_disk.specs.Disk.{Files, Holds, Torn, Same, Changes, Evolves, Raises, Rose, HasCause};
 ghost use Rattle.ss_disk.specs.Memory.{contents, Replays};
 ghost use Rattle.ss_disk.specs.MemoryLaws.{reading_is_image};
@@ -195,7 +195,7 @@ impl MemoryDisk {
 }
 
 impl Disk for MemoryDisk {
-    ghost use Rattle.ss_disk.specs.MemoryDisk.{files_of, moment_of, image_of, Counts};
+    ghost use Rattle.ss_disk.specs.MemoryDisk.{files_of, moment_of, image_of, Counts, KeepsImages};
 
     ghost told = { true };
 
@@ -258,6 +258,7 @@ impl Disk for MemoryDisk {
         ensures known_err { OnErr result (slice_index self.new.known ≡ slice_index self.old.known) }
         ensures cause { HasCause self.old.faults self.new.faults result }
         ensures counts { Counts self.old self.new result }
+        ensures keeps { KeepsImages self.old self.new }
     {
         if self.fails_next() {
             let _ = self.put_torn(file, at, bytes);
@@ -277,6 +278,7 @@ impl Disk for MemoryDisk {
         ensures images { Evolves (moment_of self.old) (image_of self.old) (moment_of self.new) (image_of self.new) Same }
         ensures cause { HasCause self.old.faults self.new.faults result }
         ensures counts { Counts self.old self.new result }
+        ensures keeps { IsErr result → KeepsImages self.old self.new }
     {
         if self.fails_next() {
             let _ = self.calls.push(DeviceCall::Asked);

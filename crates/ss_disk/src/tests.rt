@@ -3,6 +3,8 @@ ghost use Rattle.std.specs.Prelude.{◌<◌};
 use super::*;
 use std::alloc::Global;
 use std::fs;
+use std::fs::File;
+use std::rt::Files;
 use std::test::Fail;
 
 // The first bytes of a file, with `ee` past its end.
@@ -138,6 +140,7 @@ fn a_folder_keeps_six_files(rt: HostRuntime) -> Result<(), Fail> {
         disk.sync(file)?;
         assert_eq!(rt; fs::read(&rt, name)?.as_slice(), [6, 7, 9, 10].as_slice());
     }
+    drop(disk);
     let mut again = FolderDisk::new(rt.alloc(), rt.clone()?, ".")?;
     is_send(&again);
     let size = again.size(4)?;
@@ -154,8 +157,73 @@ fn a_folder_keeps_six_files(rt: HostRuntime) -> Result<(), Fail> {
     assert_eq!(rt; again.faults(), 1);
     assert_eq!(rt; again.size(4), Err(DiskFault));
     assert_eq!(rt; again.faults(), 2);
+    assert_eq!(rt;
+        said(&rt, &again)?.as_str(),
+        "meta.log: read: failed to fill whole buffer"
+    );
+    Ok(())
+}
 
+// What a disk tells of its first failure, `-` where it has none.
+fn said<R: Files<File = File> + Drop>(
+    rt: &HostRuntime,
+    disk: &FolderDisk<R>,
+) -> Result<String, Fail> {
+    match disk.failure() {
+        Some(failure) => Ok(format!(in rt.alloc(); "{failure}")?),
+        None => Ok(String::from_str(rt.alloc(), "-")?),
+    }
+}
+
+#[test]
+fn a_folder_serves_one_disk(rt: HostRuntime) -> Result<(), Fail> {
+    let mut first = FolderDisk::new(rt.alloc(), rt.clone()?, ".")?;
+    let mut second = FolderDisk::new(rt.alloc(), rt.clone()?, ".")?;
+    first.size(1)?;
+    assert_eq!(rt; second.size(1), Err(DiskFault));
+    assert_eq!(rt; second.size(2), Err(DiskFault));
+    assert_eq!(rt; fs::exists(&rt, "cold-a.log")?, false);
+    assert_eq!(rt;
+        said(&rt, &second)?.as_str(),
+        "another program uses this store"
+    );
+    assert_eq!(rt; said(&rt, &first)?.as_str(), "-");
+    drop(first);
+    second.size(1)?;
+    assert_eq!(rt; second.faults(), 2);
+    Ok(())
+}
+
+#[test]
+fn a_folder_that_is_not_there_fails(rt: HostRuntime) -> Result<(), Fail> {
     let mut nowhere = FolderDisk::new(rt.alloc(), rt.clone()?, "nowhere")?;
     assert_eq!(rt; answers(&mut nowhere), ([false; 5], 5));
+    assert_eq!(rt;
+        said(&rt, &nowhere)?.as_str(),
+        ".: open: No such file or directory (os error 2)"
+    );
+    Ok(())
+}
+
+// The images that a crash now may leave of file 0, by the numbers that let all its writes go one way.
+fn images(rt: &HostRuntime, disk: &MemoryDisk) -> Result<[[u8; 4]; 3], Fail> {
+    let mut images = [[0; 4]; 3];
+    for choice in 0..3usize {
+        let mut left = disk.crash(rt.alloc(), choice as u64)?;
+        images[choice] = front(&mut left, 0)?;
+    }
+    Ok(images)
+}
+
+#[test]
+fn calls_that_fail_drop_no_image(rt: HostRuntime) -> Result<(), Fail> {
+    let mut disk = half_synced(rt.alloc())?;
+    let before = images(&rt, &disk)?;
+    disk.fail_at(3)?;
+    disk.fail_at(4)?;
+    assert_eq!(rt; disk.sync(0), Err(DiskFault));
+    assert_eq!(rt; disk.sync(0), Err(DiskFault));
+    assert_eq!(rt; images(&rt, &disk)?, before);
+    assert_eq!(rt; before[0], [1, 2, 3, 0xee]);
     Ok(())
 }

@@ -4,6 +4,7 @@ use Rattle.std.specs.Prelude.{ℕ, zero, suc, ◌+◌, List, [], ◌∷◌, map,
 use Rattle.std.specs.Ordering.{nat_cmp}
 use Rattle.std.specs.Cmp.Lexicographic.{slice_cmp}
 use Rattle.std.specs.FinMap as finite_map
+pub use Rattle.ss_cid.specs.Maps.{CidMap}
 use Rattle.ss_records.specs.declared.record.Config.{Config as Settings}
 use Rattle.ss_records.specs.declared.record.Record.{Record}
 use Rattle.ss_records.specs.declared.record.Record.TheVariants.{Config, Generation, Put, Dropped, Head, Base}
@@ -11,10 +12,6 @@ use Rattle.ss_records.specs.declared.places.BlockPlace.{BlockPlace}
 use Rattle.ss_records.specs.Record.{spelling, Fits, IsValue}
 use Rattle.ss_records.specs.Places.{places_of}
 use Rattle.ss_hot.specs.declared.place.Place.{Place}
-
--- a finite map from CIDs, in the order of their bytes
-abbrev pub CidMap : Type 0 → Type 0
-CidMap X = finite_map.FinMap (slice_cmp nat_cmp) X
 
 -- the bodies that spell these records
 abbrev pub bodies : List Record → List (List ℕ)

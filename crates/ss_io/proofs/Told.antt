@@ -1,4 +1,4 @@
--- Steps of told bytes, one after another. An end that does not tell its bytes meets each of them.
+-- Steps of a stream that exposes its contents, one after another. A stream that does not meets each of them.
 use Rattle.std.proofs.Common.{◌≡◌, ℕ, ◌-◌, List, [], ◌++◌, length, take, drop, refl, ◌∙◌, ap, append_assoc, length-drop}
 use Rattle.std.specs.Prelude.{Option, None, Some, Result, Ok, Err, is_err, true}
 use Rattle.std.proofs.lemmas.List.{append-nil, take-append-drop}

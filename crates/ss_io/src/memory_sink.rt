@@ -10,8 +10,8 @@ use ss_cid::{Bytes, NoMemory};
 use std::alloc::Global;
 use std::marker::Model;
 
-/// A sink into memory, which tells its bytes. The calls of `put` and `flush`, counted together from 0, fail
-/// where they are listed; a `put` fails for want of memory too.
+/// A sink into memory, which exposes its contents. The calls of `put` and `flush`, counted together from 0, fail
+/// where they are listed; a `put` fails out of memory too.
 #[derive(Debug, Drop)]
 pub struct MemorySink {
     content: Bytes,
@@ -41,7 +41,7 @@ impl MemorySink {
         }
     }
 
-    /// Lists one more call that fails. Want of memory leaves the list as it was.
+    /// Lists one more call that fails. Out of memory, the list stays as it was.
     pub fn fail_at(&mut self, call: u64) -> Result<(), NoMemory>
         ensures ok { OnOk result (self.new ≡ record self.old { failing = self.old.failing ++ call ∷ [] }) }
         ensures err { OnErr result (self.new ≡ self.old) }

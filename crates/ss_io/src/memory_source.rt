@@ -46,7 +46,7 @@ impl MemorySource {
         }
     }
 
-    /// Lists one more call that fails. Want of memory leaves the list as it was.
+    /// Lists one more call that fails. Out of memory, the list stays as it was.
     pub fn fail_at(&mut self, call: u64) -> Result<(), NoMemory>
         ensures ok { OnOk result (self.new ≡ record self.old { failing = self.old.failing ++ call ∷ [] }) }
         ensures err { OnErr result (self.new ≡ self.old) }

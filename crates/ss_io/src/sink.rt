@@ -13,11 +13,11 @@ pub trait Sink {
     /// How often a call has failed, up to 2^64 - 1.
     ghost faults: { Self → ℕ };
 
-    /// The ghost names of the references that the sink holds. No call changes them, so whoever lent them
+    /// The ghost names of the references that the sink holds. No call changes them, so the lender
     /// still knows them to be its own afterwards.
     ghost place: { Self → List ℕ } = { λ _. [] };
 
-    /// Appends the bytes. A call that fails has appended a front of them, which may be none or all.
+    /// Appends the bytes. A call that fails has appended a prefix of them, which may be none or all.
     fn put(&mut self, bytes: &[u8]) -> Result<(), Failed>
         ensures bytes { PutAppends (written self.old) (written self.new) result bytes.now }
         ensures cause { HasCause (faults self.old) (faults self.new) result }

@@ -13,7 +13,7 @@ pub trait Source {
     /// How often a call has failed, up to 2^64 - 1.
     ghost faults: { Self → ℕ };
 
-    /// The ghost names of the references that the source holds. No call changes them, so whoever lent them
+    /// The ghost names of the references that the source holds. No call changes them, so the lender
     /// still knows them to be its own afterwards.
     ghost place: { Self → List ℕ } = { λ _. [] };
 

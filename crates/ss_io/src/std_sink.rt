@@ -1,17 +1,18 @@
-ghost use Rattle.std.specs.Prelude.{◌≡◌, ◌<◌, ◌≤◌, length, IfOk};
+ghost use Rattle.std.specs.Prelude.{◌≡◌, ◌<◌, ◌≤◌, ◌↔◌, length, IsSome, IfOk};
 ghost use Rattle.std.specs.Io.KnownBytes.{WriteAppends};
 ghost use Rattle.ss_io.specs.Written.{PutAppends};
 
-use crate::failed::count_fault;
+use crate::failure::{Failures, StreamCall, StreamFailure};
 use crate::{Failed, Sink};
+use std::io;
 use std::io::{ErrorKind, Write};
 
 /// A sink over a writer of std. A write that a signal interrupts is made again. One that takes nothing of
-/// bytes that are not empty has failed.
+/// bytes that are not empty has failed. The first failure is remembered.
 #[derive(Drop)]
 pub struct StdSink<W: Write> {
     inner: W,
-    faults: u64,
+    failures: Failures,
 }
 
 impl<W: Write> StdSink<W> {
@@ -20,36 +21,46 @@ impl<W: Write> StdSink<W> {
         ensures written { ⟦<StdSink<W> as Sink>⟧.written result ≡ W.contents inner }
         ensures faults { ⟦<StdSink<W> as Sink>⟧.faults result ≡ 0 }
     {
-        StdSink { inner, faults: 0 }
+        StdSink {
+            inner,
+            failures: Failures::none(),
+        }
+    }
+
+    /// Why a call failed, where one has: the first of them.
+    pub fn failure(&self) -> Option<&StreamFailure>
+        ensures { IsSome result ↔ (0 < ⟦<StdSink<W> as Sink>⟧.faults self.now) }
+    {
+        self.failures.first()
     }
 }
 
 impl<W: Write> Sink for StdSink<W> {
     ghost written = { λ s. W.contents s.inner };
 
-    ghost faults = { λ s. s.faults };
+    ghost faults = { λ s. s.failures.count };
 
     fn put(&mut self, bytes: &[u8]) -> Result<(), Failed> {
-        if write_whole(&mut self.inner, bytes).is_err() {
-            return Err(count_fault(&mut self.faults));
+        match write_whole(&mut self.inner, bytes) {
+            Ok(()) => Ok(()),
+            Err(error) => Err(self.failures.add(StreamCall::Write, error)),
         }
-        Ok(())
     }
 
     fn flush(&mut self) -> Result<(), Failed> {
         match self.inner.flush() {
             Ok(()) => Ok(()),
-            Err(_) => Err(count_fault(&mut self.faults)),
+            Err(error) => Err(self.failures.add(StreamCall::Flush, error)),
         }
     }
 
     fn faults(&self) -> u64 {
-        self.faults
+        self.failures.count
     }
 }
 
 // Writes on until nothing is left.
-fn write_whole<W: Write>(inner: &mut W, bytes: &[u8]) -> Result<(), Failed>
+fn write_whole<W: Write>(inner: &mut W, bytes: &[u8]) -> io::Result<()>
     ensures { PutAppends (W.contents inner.old) (W.contents inner.new) result bytes.now }
 {
     let mut rest = bytes;
@@ -61,18 +72,18 @@ fn write_whole<W: Write>(inner: &mut W, bytes: &[u8]) -> Result<(), Failed>
 }
 
 // One write that takes something, made again where a signal interrupts it.
-fn write_some<W: Write>(inner: &mut W, bytes: &[u8]) -> Result<usize, Failed>
+fn write_some<W: Write>(inner: &mut W, bytes: &[u8]) -> io::Result<usize>
     ensures some { IfOk result (λ count. (0 < count) × (count ≤ length bytes.now)) }
     ensures bytes { WriteAppends (W.contents inner.old) (W.contents inner.new) result bytes.now }
 {
     // A call that may be interrupted for ever has no measure, so the tries are bounded.
     for _ in 0..u64::MAX {
         match inner.write(bytes) {
-            Ok(0) => return Err(Failed),
+            Ok(0) => return Err(io::Error::from(ErrorKind::WriteZero)),
             Ok(count) => return Ok(count),
             Err(error) if error.kind() == ErrorKind::Interrupted => {}
-            Err(_) => return Err(Failed),
+            Err(error) => return Err(error),
         }
     }
-    Err(Failed)
+    Err(io::Error::from(ErrorKind::Interrupted))
 }

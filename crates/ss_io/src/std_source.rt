@@ -1,19 +1,20 @@
-ghost use Rattle.std.specs.Prelude.{◌≡◌, [], IsTrue};
+ghost use Rattle.std.specs.Prelude.{◌≡◌, ◌<◌, ◌↔◌, [], IsTrue, IsSome};
 ghost use Rattle.std.specs.Option.{ForSome};
 ghost use Rattle.std.specs.Io.{ReadsAtMost};
 ghost use Rattle.std.specs.Io.KnownBytes.{ReadConsumes};
 
-use crate::failed::count_fault;
+use crate::failure::{Failures, StreamCall, StreamFailure};
 use crate::{Failed, Source};
+use std::io;
 use std::io::{ErrorKind, Read};
 
 /// A source over a reader of std. A read that a signal interrupts is made again. Once the reader has said
-/// that the input has ended it is not asked again, so the end stays.
+/// that the input has ended it is not asked again, so the end stays. The first failure is remembered.
 #[derive(Drop)]
 pub struct StdSource<R: Read> {
     inner: R,
     ended: bool,
-    faults: u64,
+    failures: Failures,
     ghost end_stays: { IsTrue ended → ForSome (R.remaining inner) (λ xs. xs ≡ []) },
 }
 
@@ -26,15 +27,22 @@ impl<R: Read> StdSource<R> {
         StdSource {
             inner,
             ended: false,
-            faults: 0,
+            failures: Failures::none(),
         }
+    }
+
+    /// Why a call failed, where one has: the first of them.
+    pub fn failure(&self) -> Option<&StreamFailure>
+        ensures { IsSome result ↔ (0 < ⟦<StdSource<R> as Source>⟧.faults self.now) }
+    {
+        self.failures.first()
     }
 }
 
 impl<R: Read> Source for StdSource<R> {
     ghost left = { λ s. R.remaining s.inner };
 
-    ghost faults = { λ s. s.faults };
+    ghost faults = { λ s. s.failures.count };
 
     fn read(&mut self, out: &mut [u8]) -> Result<usize, Failed> {
         if self.ended {
@@ -45,17 +53,17 @@ impl<R: Read> Source for StdSource<R> {
                 self.ended = count == 0 && !out.is_empty();
                 Ok(count)
             }
-            Err(_) => Err(count_fault(&mut self.faults)),
+            Err(error) => Err(self.failures.add(StreamCall::Read, error)),
         }
     }
 
     fn faults(&self) -> u64 {
-        self.faults
+        self.failures.count
     }
 }
 
 // One read, made again where a signal interrupts it.
-fn read_again<R: Read>(inner: &mut R, out: &mut [u8]) -> Result<usize, Failed>
+fn read_again<R: Read>(inner: &mut R, out: &mut [u8]) -> io::Result<usize>
     ensures bound { ReadsAtMost result out.new }
     ensures bytes { ReadConsumes (R.remaining inner.old) (R.remaining inner.new) result out.new }
 {
@@ -64,8 +72,8 @@ fn read_again<R: Read>(inner: &mut R, out: &mut [u8]) -> Result<usize, Failed>
         match inner.read(out) {
             Ok(count) => return Ok(count),
             Err(error) if error.kind() == ErrorKind::Interrupted => {}
-            Err(_) => return Err(Failed),
+            Err(error) => return Err(error),
         }
     }
-    Err(Failed)
+    Err(io::Error::from(ErrorKind::Interrupted))
 }

@@ -210,6 +210,32 @@ fn a_source_over_std_counts_the_read_that_fails(rt: HostRuntime) {
 }
 
 #[test]
+fn the_first_failure_is_told(rt: HostRuntime) -> Result<(), Fail> {
+    let mut source = StdSource::new(Broken(0));
+    assert!(rt; source.failure().is_none());
+    let _ = reads(&mut source);
+    let Some(failure) = source.failure() else {
+        return Err(Fail::new("no failure"));
+    };
+    assert_eq!(rt;
+        format!(in rt.alloc(); "{failure}")?.as_str(),
+        "read: operation would block"
+    );
+
+    let mut room = [0u8; 3];
+    let mut sink = StdSink::new(room.as_mut_slice());
+    let _ = puts(&mut sink);
+    let Some(failure) = sink.failure() else {
+        return Err(Fail::new("no failure"));
+    };
+    assert_eq!(rt;
+        format!(in rt.alloc(); "{failure}")?.as_str(),
+        "write: write zero"
+    );
+    Ok(())
+}
+
+#[test]
 fn a_sink_over_std_writes_on_until_all_is_taken(rt: HostRuntime) {
     let mut writer = Halting {
         calls: 0,

@@ -55,7 +55,7 @@ blocks_stay kept [] c b is = is
 blocks_stay kept (p ∷ pairs) c b is = blocks_stay (with_block kept p) pairs c b (block_stays kept p c b is)
 
 -- only a put that stored changes settings, blocks and hot CIDs, and it was admitted
-step_keeps : (s : State) (k : Call) (a : Answer) (P : Settings → Kept → CidSet → Type 0) → P s.config s.kept s.hot → ((v : ℕ) (pairs : List (List ℕ × List ℕ)) → (Lawful s k a → IsAdmitted s v pairs) → P s.config (with_blocks s.kept pairs) (with_hot s.hot pairs)) → P (After s k a).config (After s k a).kept (After s k a).hot
+pub step_keeps : (s : State) (k : Call) (a : Answer) (P : Settings → Kept → CidSet → Type 0) → P s.config s.kept s.hot → ((v : ℕ) (pairs : List (List ℕ × List ℕ)) → (Lawful s k a → IsAdmitted s v pairs) → P s.config (with_blocks s.kept pairs) (with_hot s.hot pairs)) → P (After s k a).config (After s k a).kept (After s k a).hot
 step_keeps s call.OpenView (answer.View (view.Opened n)) P same more = same
 step_keeps s call.OpenView (answer.View view.TooManyViews) P same more = same
 step_keeps s call.OpenView (answer.Put r) P same more = same
@@ -124,7 +124,7 @@ found s pairs new between i p v reply at lawful is =
 
 -- what is kept is valid
 
-abbrev AreValid : Kept → Type 0
+abbrev pub AreValid : Kept → Type 0
 AreValid kept = (c b : List ℕ) → map.get kept c ≡ Some b → IsValid c b
 
 block_valid : (kept : Kept) (p : List ℕ × List ℕ) → AreValid kept → IsValid p.0 p.1 → AreValid (with_block kept p)
@@ -140,7 +140,7 @@ block_valid kept p valid new = go (is_some (fetched kept p.0))
         (λ (other : map.get (map.insert kept p.0 p.1) c ≡ map.get kept c). valid c b (sym other ∙ is))
         (inserted kept p.0 p.1 c)
 
-blocks_valid : (kept : Kept) (pairs : List (List ℕ × List ℕ)) → AreValid kept → AreSound pairs → AreValid (with_blocks kept pairs)
+pub blocks_valid : (kept : Kept) (pairs : List (List ℕ × List ℕ)) → AreValid kept → AreSound pairs → AreValid (with_blocks kept pairs)
 blocks_valid kept [] valid sound = valid
 blocks_valid kept (p ∷ pairs) valid sound =
     blocks_valid (with_block kept p) pairs (block_valid kept p valid (sound 0 p (omega arith) refl).valid) (λ k q within at. sound (suc k) q (omega arith) at)
@@ -151,16 +151,12 @@ history_keeps P puts s [] now legal = now
 history_keeps P puts s (e ∷ h) now legal =
     history_keeps P puts (After s e.call e.answer) h (step_keeps s e.call e.answer P now (λ v pairs admitted. puts s v pairs (admitted legal.0) now)) legal.1
 
-nothing_kept : (k x : List ℕ) → map.get (map.empty {X = List ℕ} {R = slice_cmp nat_cmp}) k ≡ Some x → ⊥
+pub nothing_kept : (k x : List ℕ) → map.get (map.empty {X = List ℕ} {R = slice_cmp nat_cmp}) k ≡ Some x → ⊥
 nothing_kept k x none = true≢false (sym (ap is_some (sym (get-empty (slice_cmp nat_cmp) k) ∙ none)))
-
-pub kept_valid : (config : Settings) (h : List Entry) (c b : List ℕ) → Legal (empty_state config) h → map.get (AfterAll (empty_state config) h).kept c ≡ Some b → IsValid c b
-kept_valid config h c b legal is =
-    history_keeps (λ config kept hot. AreValid kept) (λ s v pairs admitted valid. blocks_valid s.kept pairs valid admitted.passed.sound) (empty_state config) h (λ k x none. absurd (nothing_kept k x none)) legal c b is
 
 -- what is kept is under no identity CID
 
-abbrev AreStored : Kept → Type 0
+abbrev pub AreStored : Kept → Type 0
 AreStored kept = (c b : List ℕ) → map.get kept c ≡ Some b → identity_of c ≡ None
 
 no_identity : (id kept : Option (List ℕ)) → is_some (or_else id kept) ≡ false → id ≡ None
@@ -178,67 +174,68 @@ block_stored kept p are c b = go (is_some (or_else (identity_of p.0) (map.get ke
         (λ (other : map.get (map.insert kept p.0 p.1) c ≡ map.get kept c). are c b (sym other ∙ is))
         (inserted kept p.0 p.1 c)
 
-blocks_stored : (kept : Kept) (pairs : List (List ℕ × List ℕ)) → AreStored kept → AreStored (with_blocks kept pairs)
+pub blocks_stored : (kept : Kept) (pairs : List (List ℕ × List ℕ)) → AreStored kept → AreStored (with_blocks kept pairs)
 blocks_stored kept [] are = are
 blocks_stored kept (p ∷ pairs) are = blocks_stored (with_block kept p) pairs (block_stored kept p are)
-
-history_stored : (s : State) (h : List Entry) → AreStored s.kept → AreStored (AfterAll s h).kept
-history_stored s [] are = are
-history_stored s (e ∷ h) are = history_stored (After s e.call e.answer) h (step_keeps s e.call e.answer (λ config kept hot. AreStored kept) are (λ v pairs admitted. blocks_stored s.kept pairs are))
-
-pub no_identity_kept : (config : Settings) (h : List Entry) (c b : List ℕ) → map.get (AfterAll (empty_state config) h).kept c ≡ Some b → identity_of c ≡ None
-no_identity_kept config h c b is = history_stored (empty_state config) h (λ k x none. absurd (nothing_kept k x none)) c b is
-
--- what is kept fits its table
-
-pub within_rows : (config : Settings) (h : List Entry) → Legal (empty_state config) h → map.len (AfterAll (empty_state config) h).kept ≤ config.rows
-within_rows config h legal = (history_keeps Within fits (empty_state config) h (refl, none) legal).1
-  where
-    Within : Settings → Kept → CidSet → Type 0
-    Within now kept hot = (now ≡ config) × (map.len kept ≤ config.rows)
-
-    fits : (s : State) (v : ℕ) (pairs : List (List ℕ × List ℕ)) → IsAdmitted s v pairs → Within s.config s.kept s.hot → Within s.config (with_blocks s.kept pairs) (with_hot s.hot pairs)
-    fits s v pairs admitted now = (now.0, subst (λ c. map.len (with_blocks s.kept pairs) ≤ c.rows) now.0 admitted.rows)
-
-    none : map.len (map.empty {X = List ℕ} {R = slice_cmp nat_cmp}) ≤ config.rows
-    none = subst (λ n. n ≤ config.rows) (sym (len-empty (slice_cmp nat_cmp) (List ℕ))) (omega arith)
 
 -- a table with a row for each block has one for each behind a legal history
 pub still_within : (s : State) (h : List Entry) → map.len s.kept ≤ s.config.rows → Legal s h → map.len (AfterAll s h).kept ≤ (AfterAll s h).config.rows
 still_within s h few legal = history_keeps (λ config kept hot. map.len kept ≤ config.rows) (λ t v pairs admitted now. admitted.rows) s h few legal
 
--- what is kept is hot, and nothing else
+-- only what is kept is hot
 
-abbrev AreHot : Kept → CidSet → Type 0
-AreHot kept hot = (c : List ℕ) → set.contains hot c ≡ map.contains_key kept c
+abbrev pub AreKept : Kept → CidSet → Type 0
+AreKept kept hot = (c : List ℕ) → set.contains hot c ≡ true → map.contains_key kept c ≡ true
+
+block_kept : (kept : Kept) (hot : CidSet) (p : List ℕ × List ℕ) → AreKept kept hot → AreKept (with_block kept p) (with_hot_cid hot p.0)
+unfolding with_block with_hot_cid fetched
+block_kept kept hot p are c = by_identity (identity_of p.0)
+  where
+    in_known : (same : Bool) → eq_by_cmp (slice_cmp nat_cmp) c p.0 ≡ same → is_some (map.get kept p.0) ≡ true → (same || set.contains hot c) ≡ true → is_some (map.get kept c) ≡ true
+    in_known true e known is = subst (λ k. is_some (map.get kept k) ≡ true) (sym (slice_cmp-IsAntisymmetric nat_cmp-IsAntisymmetric c p.0 ((Equal-is (slice_cmp nat_cmp c p.0)).0 e))) known
+    in_known false e known is = are c is
+
+    in_new : (same : Bool) → (same || set.contains hot c) ≡ true → is_some (cond same (Some p.1) (map.get kept c)) ≡ true
+    in_new true is = refl
+    in_new false is = are c is
+
+    by_known : (known : Bool) → is_some (map.get kept p.0) ≡ known → set.contains (set.insert hot p.0) c ≡ true → is_some (map.get (cond known kept (map.insert kept p.0 p.1)) c) ≡ true
+    by_known true e is = in_known _ refl e (sym (contains-insert nat_list_cmp_total hot p.0 c) ∙ is)
+    by_known false e is = ap is_some (get-insert nat_list_cmp_total kept p.0 p.1 c) ∙ in_new _ (sym (contains-insert nat_list_cmp_total hot p.0 c) ∙ is)
+
+    by_identity : (id : Option (List ℕ)) → set.contains (cond (is_some id) hot (set.insert hot p.0)) c ≡ true → is_some (map.get (cond (is_some (or_else id (map.get kept p.0))) kept (map.insert kept p.0 p.1)) c) ≡ true
+    by_identity (Some d) = are c
+    by_identity None = by_known (is_some (map.get kept p.0)) refl
+
+pub blocks_kept : (kept : Kept) (hot : CidSet) (pairs : List (List ℕ × List ℕ)) → AreKept kept hot → AreKept (with_blocks kept pairs) (with_hot hot pairs)
+blocks_kept kept hot [] are = are
+blocks_kept kept hot (p ∷ pairs) are = blocks_kept (with_block kept p) (with_hot_cid hot p.0) pairs (block_kept kept hot p are)
+
+-- all that is kept is hot
+
+abbrev pub AreHot : Kept → CidSet → Type 0
+AreHot kept hot = (c : List ℕ) → map.contains_key kept c ≡ true → set.contains hot c ≡ true
 
 block_hot : (kept : Kept) (hot : CidSet) (p : List ℕ × List ℕ) → AreHot kept hot → AreHot (with_block kept p) (with_hot_cid hot p.0)
 unfolding with_block with_hot_cid fetched
 block_hot kept hot p are c = by_identity (identity_of p.0)
   where
-    known_before : (same : Bool) → eq_by_cmp (slice_cmp nat_cmp) c p.0 ≡ same → is_some (map.get kept p.0) ≡ true → (same || set.contains hot c) ≡ is_some (map.get kept c)
-    known_before true e known = sym (subst (λ k. is_some (map.get kept k) ≡ true) (sym (slice_cmp-IsAntisymmetric nat_cmp-IsAntisymmetric c p.0 ((Equal-is (slice_cmp nat_cmp c p.0)).0 e))) known)
-    known_before false e known = are c
+    known_before : (same : Bool) → is_some (map.get kept c) ≡ true → (same || set.contains hot c) ≡ true
+    known_before true is = refl
+    known_before false is = are c is
 
-    new_now : (same : Bool) → (same || set.contains hot c) ≡ is_some (cond same (Some p.1) (map.get kept c))
-    new_now true = refl
-    new_now false = are c
+    new_now : (same : Bool) → is_some (cond same (Some p.1) (map.get kept c)) ≡ true → (same || set.contains hot c) ≡ true
+    new_now true is = refl
+    new_now false is = are c is
 
-    by_known : (known : Bool) → is_some (map.get kept p.0) ≡ known → set.contains (set.insert hot p.0) c ≡ is_some (map.get (cond known kept (map.insert kept p.0 p.1)) c)
-    by_known true e = contains-insert nat_list_cmp_total hot p.0 c ∙ known_before _ refl e
-    by_known false e = contains-insert nat_list_cmp_total hot p.0 c ∙ new_now _ ∙ ap is_some (sym (get-insert nat_list_cmp_total kept p.0 p.1 c))
+    by_known : (known : Bool) → is_some (map.get (cond known kept (map.insert kept p.0 p.1)) c) ≡ true → set.contains (set.insert hot p.0) c ≡ true
+    by_known true is = contains-insert nat_list_cmp_total hot p.0 c ∙ known_before _ is
+    by_known false is = contains-insert nat_list_cmp_total hot p.0 c ∙ new_now _ (sym (ap is_some (get-insert nat_list_cmp_total kept p.0 p.1 c)) ∙ is)
 
-    by_identity : (id : Option (List ℕ)) → set.contains (cond (is_some id) hot (set.insert hot p.0)) c ≡ is_some (map.get (cond (is_some (or_else id (map.get kept p.0))) kept (map.insert kept p.0 p.1)) c)
+    by_identity : (id : Option (List ℕ)) → is_some (map.get (cond (is_some (or_else id (map.get kept p.0))) kept (map.insert kept p.0 p.1)) c) ≡ true → set.contains (cond (is_some id) hot (set.insert hot p.0)) c ≡ true
     by_identity (Some d) = are c
-    by_identity None = by_known (is_some (map.get kept p.0)) refl
+    by_identity None = by_known (is_some (map.get kept p.0))
 
-blocks_hot : (kept : Kept) (hot : CidSet) (pairs : List (List ℕ × List ℕ)) → AreHot kept hot → AreHot (with_blocks kept pairs) (with_hot hot pairs)
+pub blocks_hot : (kept : Kept) (hot : CidSet) (pairs : List (List ℕ × List ℕ)) → AreHot kept hot → AreHot (with_blocks kept pairs) (with_hot hot pairs)
 blocks_hot kept hot [] are = are
 blocks_hot kept hot (p ∷ pairs) are = blocks_hot (with_block kept p) (with_hot_cid hot p.0) pairs (block_hot kept hot p are)
-
-history_hot : (s : State) (h : List Entry) → AreHot s.kept s.hot → AreHot (AfterAll s h).kept (AfterAll s h).hot
-history_hot s [] are = are
-history_hot s (e ∷ h) are = history_hot (After s e.call e.answer) h (step_keeps s e.call e.answer (λ config kept hot. AreHot kept hot) are (λ v pairs admitted. blocks_hot s.kept s.hot pairs are))
-
-pub exactly_hot : (config : Settings) (h : List Entry) (c : List ℕ) → set.contains (AfterAll (empty_state config) h).hot c ≡ map.contains_key (AfterAll (empty_state config) h).kept c
-exactly_hot config h = history_hot (empty_state config) h (λ c. contains-empty (slice_cmp nat_cmp) c ∙ sym (ap is_some (get-empty (slice_cmp nat_cmp) c)))

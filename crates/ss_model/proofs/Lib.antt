@@ -1,2 +1,3 @@
 pub mod Kept
+mod Proper
 pub mod Need

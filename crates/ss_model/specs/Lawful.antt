@@ -1,7 +1,7 @@
 -- Which answer to a call is lawful at a state, and the state after it.
 --
--- Each call has a list of answers, and the lawful one is the first whose condition holds. Three answers hang on more than
--- the state: want of memory, a full log, whose room no state has, and a fault of the disk. Each may stand in its place in
+-- Each call has a list of answers, and the lawful one is the first whose condition holds. Three answers depend on more than
+-- the state: out of memory, a full log, whose room no state has, and a fault of the disk. Each may stand in its place in
 -- the list, and a later one too. Only an answer that is named with an effect changes the state.
 use Rattle.std.specs.Prelude.{◌≡◌, ◌≢◌, ℕ, ◌+◌, ◌-◌, ◌^◌, ◌<◌, ◌≤◌, min, max, Bool, true, false, ◌||◌, List, [], ◌∷◌, length, Option, None, Some, if◌then◌else◌, is_some, IsOk, Err, slice_get, sum_by}
 use Rattle.std.specs.FinMap as map
@@ -194,7 +194,7 @@ After s call.OpenView (answer.View r) = after_view s r
 After s (call.Put v pairs) (answer.Put r) = after_put s pairs r
 After s _ _ = s
 
--- the answer is want of memory
+-- the answer is out of memory
 abbrev pub is_no_memory : Answer → Bool
 is_no_memory (answer.Put put.NoMemory) = true
 is_no_memory (answer.Get get.NoMemory) = true

@@ -1,3 +1,4 @@
 pub mod State
+pub mod Proper
 pub mod Lawful
 pub mod History

@@ -1,24 +1,17 @@
 -- The state of the store, as its clients see it.
 --
--- config holds the settings, fixed when the store is made. kept is a finite map from CIDs to the bytes of their blocks; a
--- CID is its list of bytes, and CIDs stand in the order of these lists. hot holds the CIDs whose blocks are in the hot part
--- of the store. head is none, or the height and the CIDs of the tipset that was last set. base is the edge of the last
+-- config holds the settings, fixed when the store is made. kept is a finite map from CIDs to the bytes of their blocks.
+-- hot holds the CIDs whose blocks are in the hot part of the store. head is none, or the height and the CIDs of the tipset that was last set. base is the edge of the last
 -- compaction, and ended tells how many have ended. views holds the numbers of the open views.
 --
 -- The type promises nothing of how these hang together. What does hold is a law of histories: begun with a new store, a
 -- history leaves a state in which no identity CID is kept, and exactly the kept CIDs are hot.
 use Rattle.std.specs.Prelude.{ℕ, List, Option, None}
 use Rattle.std.specs.Ordering.{nat_cmp}
-use Rattle.std.specs.Cmp.Lexicographic.{slice_cmp}
 use Rattle.std.specs.FinMap as map
 use Rattle.std.specs.FinSet as set
 use Rattle.ss_records.specs.declared.record.Config.{Config as Settings}
-
-abbrev pub Kept : Type 0
-Kept = map.FinMap (slice_cmp nat_cmp) (List ℕ)
-
-abbrev pub CidSet : Type 0
-CidSet = set.FinSet (slice_cmp nat_cmp)
+pub use Rattle.ss_cid.specs.Maps.{Kept, CidSet}
 
 abbrev pub ViewSet : Type 0
 ViewSet = set.FinSet nat_cmp

@@ -1,16 +1,17 @@
 //! What clients may rely on in every history, as laws: each is the contract of a function with an empty body.
 
-ghost use Rattle.std.specs.Prelude.{◌≡◌, ◌≢◌, ℕ, ◌+◌, ◌≤◌, List, length, None, Some, slice_get};
+ghost use Rattle.std.specs.Prelude.{◌≡◌, ◌≢◌, ℕ, ◌+◌, false, List, length, Some, slice_get};
 ghost use Rattle.std.specs.FinMap as map;
-ghost use Rattle.std.specs.FinSet as set;
-ghost use Rattle.ss_cid.specs.Cid.{identity_of};
-ghost use Rattle.ss_hash.specs.Digest.{IsValid};
 ghost use Rattle.ss_records.specs.declared.record.Config.{Config as Settings};
 ghost use Rattle.ss_records.specs.declared.record.Record.{Record};
 ghost use Rattle.ss_records.specs.Record.{spelling};
-ghost use Rattle.ss_model.specs.State.{State, empty_state};
-ghost use Rattle.ss_model.specs.Lawful.{pairs_need, LawfulGet, after_put};
+ghost use Rattle.ss_model.specs.State.{State, empty_state, closed};
+ghost use Rattle.ss_model.specs.Proper.{IsProper};
+ghost use Rattle.ss_model.specs.Lawful.{is_open, pairs_need, Lawful, LawfulGet, After, after_put};
 ghost use Rattle.ss_model.specs.History.{Legal, AfterAll};
+ghost use Rattle.ss_model.specs.declared.TheConstants.{VIEWS, NO_VIEW, PUT_BLOCKS, PUT_BYTES, BLOCK_BYTES, COMPACTOR};
+ghost use Rattle.ss_model.specs.declared.call.Answer.{Answer};
+ghost use Rattle.ss_model.specs.declared.call.Call.{Call};
 ghost use Rattle.ss_model.specs.declared.call.Entry.{Entry};
 ghost use Rattle.ss_model.specs.declared.call.GetReply.{GetReply};
 ghost use Rattle.ss_model.specs.declared.call.GetReply.TheVariants as get;
@@ -27,24 +28,30 @@ pub fn stored_is_found()
     ensures { (s : State) (pairs : List (List ℕ × List ℕ)) (new : ℕ) (between : List Entry) (i : ℕ) (p : List ℕ × List ℕ) (view : ℕ) (reply : GetReply) → slice_get pairs i ≡ Some p → LawfulGet (AfterAll (after_put s pairs (put.Stored new)) between) view p.0 reply → reply ≢ get.NotFound }
 {}
 
-/// In a legal history from a new store every block that is kept is valid for its CID.
-pub fn kept_is_valid()
-    ensures { (config : Settings) (h : List Entry) (c block : List ℕ) → Legal (empty_state config) h → map.get (AfterAll (empty_state config) h).kept c ≡ Some block → IsValid c block }
+/// A new store has a proper state.
+pub fn a_new_store_is_proper()
+    ensures { (config : Settings) → IsProper (empty_state config) }
 {}
 
-/// In a history from a new store no block is kept under an identity CID.
-pub fn no_identity_cid_is_kept()
-    ensures { (config : Settings) (h : List Entry) (c block : List ℕ) → map.get (AfterAll (empty_state config) h).kept c ≡ Some block → identity_of c ≡ None }
+/// Each legal entry, each legal history and closing keep a proper state. So whatever a store went through since it was made,
+/// in any number of runs: each kept block is valid for its CID, which is no identity CID; all kept blocks are hot in discard
+/// mode; and no more are kept than the settings allow.
+pub fn a_proper_state_stays_proper()
+    ensures entry { (s : State) (asked : Call) (given : Answer) → IsProper s → Lawful s asked given → IsProper (After s asked given) }
+    ensures history { (s : State) (h : List Entry) → IsProper s → Legal s h → IsProper (AfterAll s h) }
+    ensures closing { (s : State) → IsProper s → IsProper (closed s) }
 {}
 
-/// In a history from a new store exactly the kept CIDs are hot: no call makes a block cold.
-pub fn kept_is_hot()
-    ensures { (config : Settings) (h : List Entry) (c : List ℕ) → set.contains (AfterAll (empty_state config) h).hot c ≡ map.contains_key (AfterAll (empty_state config) h).kept c }
+/// The view that a script's line is given where its own `open` has not answered is never open.
+pub fn no_view_is_never_open()
+    ensures { (s : State) → IsProper s → is_open s NO_VIEW ≡ false }
 {}
 
-/// In a legal history from a new store no more CIDs are kept than its settings allow.
-pub fn kept_fits_its_table()
-    ensures { (config : Settings) (h : List Entry) → Legal (empty_state config) h → map.len (AfterAll (empty_state config) h).kept ≤ config.rows }
+/// The limits, as numbers.
+pub fn limits()
+    ensures views { (VIEWS ≡ 1024) × (NO_VIEW ≡ 4294967295) }
+    ensures puts { (PUT_BLOCKS ≡ 1024) × (PUT_BYTES ≡ 15728640) × (BLOCK_BYTES ≡ 8388608) }
+    ensures compactor { COMPACTOR ≡ 255 }
 {}
 
 /// What a put needs of a log is what the record of its blocks takes: its body, and five bytes for the gate and the length.

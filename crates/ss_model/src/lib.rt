@@ -1,7 +1,7 @@
 //! The machine: what a client may call, what the store may answer, and which lists of calls and answers are lawful.
 //!
 //! A store is seen as one state: its settings, which blocks it keeps, which of them are hot, the head, the base of the
-//! last compaction, and which views are open. A call has one lawful answer at a state, but for want of memory, a full
+//! last compaction, and which views are open. A call has one lawful answer at a state, except out of memory, a full
 //! log and a fault of the disk, which may stand in its place; the state after an answer is a function of the state, the
 //! call and the answer. So a history, a list of entries, is legal or not, and stands for one run. The definitions are
 //! in `specs/`; this crate has the types that they speak of, and the laws that hold of histories.
@@ -16,7 +16,7 @@ pub use call::{Answer, Call, Entry, GetReply, PutReply, ViewReply};
 pub const COMPACTOR: u8 = 255;
 
 /// The number of a view that is never open: the one a script line is given whose own `open` has not answered.
-pub const NO_VIEW: u32 = 4294967295;
+pub const NO_VIEW: u32 = 4_294_967_295;
 
 /// How many views may be open at once. Their numbers are below it.
 pub const VIEWS: u32 = 1024;
@@ -25,7 +25,7 @@ pub const VIEWS: u32 = 1024;
 pub const PUT_BLOCKS: usize = 1024;
 
 /// The most bytes of one put: what `PutReply::TooBig` counts.
-pub const PUT_BYTES: u64 = 15728640;
+pub const PUT_BYTES: u64 = 15_728_640;
 
 /// The most bytes of a CID and its block together.
-pub const BLOCK_BYTES: usize = 8388608;
+pub const BLOCK_BYTES: usize = 8_388_608;

@@ -21,7 +21,7 @@ abbrev pub Gives : {X Y : Type 0} → (X → Y) → Result X Fault → Result Y 
 Gives view (Ok x) read = read ≡ Ok (view x)
 Gives view (Err e) read = Fails e read
 
--- an answer is what the bytes say, or the place of their fault, unless memory was wanting
+-- an answer is what the bytes say, or the place of their fault, unless memory ran out
 abbrev pub Answers : {X : Type 0} → Result X RecordFault → Result X ℕ → Type 0
 Answers (Ok x) read = read ≡ Ok x
 Answers (Err (refusal.BadRecord at)) read = read ≡ Err at

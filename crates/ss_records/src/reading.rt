@@ -181,12 +181,12 @@ fn read(alloc: Global, body: &[u8]) -> Result<Record, RecordFault>
 /// field, it is the body's length. A block whose length alone is too great is at fault at that length, even
 /// where its bytes are not there.
 ///
-/// The blocks are copied into the record. Where memory is wanting, what was read is given back to the
+/// The blocks are copied into the record. Out of memory, what was read is given back to the
 /// allocator. A fault that stands behind the block or the CID that found no memory is not told.
 pub fn decode(alloc: Global, body: &[u8]) -> Result<Record, RecordFault>
     // What is read is a record within its bounds, and the body is its spelling.
     ensures found { IfOk result (λ r. (body.now ≡ spelling r) × IsValue r × Fits r) }
-    // What is spelled is read, unless memory is wanting.
+    // What is spelled is read, unless memory runs out.
     ensures only { (r : Record) → IsValue r → Fits r → body.now ≡ spelling r → Answers result (Ok r) }
     // Which field is at fault.
     ensures exact { Answers result (read_record body.now) }

@@ -4,7 +4,7 @@ use Rattle.std.proofs.lemmas.List.{take_all}
 use Rattle.std.proofs.lemmas.List.Elements.{All-from_get_or}
 use Rattle.ss_cid.proofs.Ordered.{tie_itself}
 use Rattle.ss_cid.proofs.Words.{words_differ, words_tie}
-use Rattle.ss_cid.proofs.room.compare_cells.Goals as goal
+use Rattle.ss_cid.proofs.cid_buffer.compare_cells.Goals as goal
 
 pub returns-then-is_ne : goal.returns-then-is_ne
 returns-then-is_ne c =

@@ -1,4 +1,4 @@
-//! Room for a CID's bytes.
+//! A buffer for a CID's bytes.
 ghost use Rattle.std.specs.Prelude.{◌≡◌, ℕ, ◌+◌, ◌<◌, ◌≤◌, ◌^◌, [], ◌∷◌, ◌++◌, length, take, drop};
 ghost use Rattle.std.specs.Int.Digits.{number_from_digits};
 ghost use Rattle.std.specs.Ordering.{nat_cmp};
@@ -11,12 +11,12 @@ use std::marker::Model;
 
 /// At most 72 bytes that lie in the value itself. The cells behind them are zero.
 #[derive(Clone, Copy)]
-pub struct Room {
+pub struct CidBuffer {
     cells: [u8; 72],
     len: u8,
 }
 
-impl Model for Room {
+impl Model for CidBuffer {
     ghost use Rattle.std.specs.Prelude.{◌≡◌, ◌-◌, ◌≤◌, ◌++◌, ℕ, List, length, take, drop, replicate};
 
     ghost Value = { List ℕ };
@@ -36,12 +36,12 @@ impl Model for Room {
     } };
 }
 
-impl Room {
+impl CidBuffer {
     /// No bytes.
-    pub fn new() -> Room
+    pub fn new() -> CidBuffer
         ensures { result ≡ [] }
     {
-        Room {
+        CidBuffer {
             cells: [0; 72],
             len: 0,
         }
@@ -96,7 +96,7 @@ impl Room {
     }
 
     /// How the bytes compare, as std compares slices.
-    pub fn compare(&self, other: &Room) -> Ordering
+    pub fn compare(&self, other: &CidBuffer) -> Ordering
         ensures { result ≡ slice_cmp nat_cmp self.now other.now }
     {
         compare_cells(&self.cells, &other.cells).then(self.len.cmp(&other.len))

@@ -2,7 +2,7 @@ use Rattle.std.proofs.Common.{nat_cmp, ap₂, sym, ◌∙◌}
 use Rattle.std.specs.Ordering.{ordering_then}
 use Rattle.std.specs.Cmp.Lexicographic.{slice_cmp}
 use Rattle.ss_cid.proofs.Words.{cells_compare}
-use Rattle.ss_cid.proofs.room.Room.compare.Goals as goal
+use Rattle.ss_cid.proofs.cid_buffer.CidBuffer.compare.Goals as goal
 
 pub returns : goal.returns
 returns c =

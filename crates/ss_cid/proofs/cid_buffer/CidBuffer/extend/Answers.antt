@@ -2,7 +2,7 @@ use Rattle.std.proofs.Common.{◌≡◌, ◌+◌, ◌-◌, ◌≤◌, ◌∙◌,
 use Rattle.std.proofs.lemmas.List.{length-take-le}
 use Rattle.std.proofs.lemmas.Slice.{drop-put_mid, overwrites}
 use Rattle.ss_cid.proofs.Lists.{drop_more_zeros}
-use Rattle.ss_cid.proofs.room.Room.extend.Goals as goal
+use Rattle.ss_cid.proofs.cid_buffer.CidBuffer.extend.Goals as goal
 
 pub invariant_of-self : goal.invariant_of-self
 invariant_of-self c =

@@ -1,7 +1,7 @@
 use Rattle.std.proofs.Common.{◌≡◌, ◌+◌, ◌∙◌, length, sym, ap, arith}
 use Rattle.std.proofs.lemmas.List.{length-set, length-take-le, drop-set-lt}
 use Rattle.ss_cid.proofs.Lists.{drop_more_zeros}
-use Rattle.ss_cid.proofs.room.Room.push.Goals as goal
+use Rattle.ss_cid.proofs.cid_buffer.CidBuffer.push.Goals as goal
 
 pub invariant_of-self : goal.invariant_of-self
 invariant_of-self c =

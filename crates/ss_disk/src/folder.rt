@@ -1,5 +1,5 @@
 ghost use Rattle.std.specs.Prelude.{◌≡◌, ◌+◌, ◌^◌, ◌<◌, ◌≤◌, ◌↔◌, [], false, length, slice_index, slice_set, IsSome, IsErr, IfOk, OnOk};
-ghost use Rattle.ss_disk.specs.Disk.{Rose};
+ghost use Rattle.ss_disk.specs.Disk.{Rose, HasCause};
 
 mod failure;
 mod locked;
@@ -73,14 +73,23 @@ impl<R: Files<File = File> + Drop> FolderDisk<R> {
     {
         if self.files[file as usize].is_none() {
             let opened = self.folder.open(file)?;
-            let synced = self.folder.sync();
-            if synced.is_err() {
-                self.lost[file as usize] = true;
-                return synced;
-            }
+            self.sync_folder(file)?;
             self.files[file as usize] = Some(opened);
         }
         Ok(())
+    }
+
+    // Makes durable that the folder has the file. Where that fails it counts as a failed sync of the file.
+    fn sync_folder(&mut self, file: u8) -> Result<(), FolderFailure>
+        requires { file < 6 }
+        ensures asks { Asks self.old self.new }
+        ensures lost { IsErr result → HasLost self.new file }
+    {
+        let synced = self.folder.sync();
+        if synced.is_err() {
+            self.lost[file as usize] = true;
+        }
+        synced
     }
 
     // The file, which is open.
@@ -161,6 +170,7 @@ impl<R: Files<File = File> + Drop> FolderDisk<R> {
         ensures rose { Rose (faults_of self.old) (faults_of self.new) }
         ensures later { faults_of self.old ≤ faults_of self.new }
         ensures known { self.new.known ≡ self.old.known }
+        ensures lost { self.new.lost ≡ self.old.lost }
     {
         if self.failure.is_none() {
             self.failure = Some(failure);
@@ -170,7 +180,7 @@ impl<R: Files<File = File> + Drop> FolderDisk<R> {
 }
 
 impl<R: Files<File = File> + Drop> Disk for FolderDisk<R> {
-    ghost use Rattle.ss_disk.specs.FolderDisk.{known_of, faults_of};
+    ghost use Rattle.ss_disk.specs.FolderDisk.{known_of, faults_of, HasLost};
 
     ghost told = { false };
 
@@ -216,7 +226,13 @@ impl<R: Files<File = File> + Drop> Disk for FolderDisk<R> {
         }
     }
 
-    fn sync(&mut self, file: u8) -> Result<(), DiskFault> {
+    fn sync(&mut self, file: u8) -> Result<(), DiskFault>
+        requires { file < 6 }
+        ensures known { known_of self.new ≡ known_of self.old }
+        ensures cause { HasCause (faults_of self.old) (faults_of self.new) result }
+        ensures remembered { HasLost self.old file → IsErr result }
+        ensures lost { IsErr result → HasLost self.new file }
+    {
         match self.try_sync(file) {
             Ok(()) => Ok(()),
             Err(failure) => Err(self.fail(failure)),

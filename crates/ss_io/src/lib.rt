@@ -14,6 +14,7 @@
 //! `proofs/Told.antt` has the steps of exposed bytes, one after another, as the rule set `told`.
 #![tactic(auto)]
 
+mod buffered;
 mod failed;
 mod failure;
 mod memory_sink;
@@ -22,7 +23,9 @@ mod sink;
 mod source;
 mod std_sink;
 mod std_source;
+mod whole;
 
+pub use buffered::Buffered;
 pub use failed::Failed;
 pub use failure::{StreamCall, StreamFailure};
 pub use memory_sink::MemorySink;
@@ -31,6 +34,7 @@ pub use sink::Sink;
 pub use source::Source;
 pub use std_sink::StdSink;
 pub use std_source::StdSource;
+pub use whole::{ReadAllFault, read_all};
 
 #[cfg(test)]
 mod tests;

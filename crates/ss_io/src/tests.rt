@@ -248,3 +248,41 @@ fn a_sink_over_std_writes_on_until_all_is_taken(rt: HostRuntime) {
     assert_eq!(rt; writer.bytes, [1, 2, 3, 4, 5]);
     assert_eq!(rt; writer.calls, 9);
 }
+
+// A source of five bytes.
+fn five(rt: &HostRuntime) -> Result<MemorySource, Fail> {
+    let mut content = Bytes::new(rt.alloc());
+    content.extend(&[1, 2, 3, 4, 5])?;
+    Ok(MemorySource::new(rt.alloc(), content))
+}
+
+#[test]
+fn a_source_is_read_whole_up_to_a_limit(rt: HostRuntime) -> Result<(), Fail> {
+    let Ok(bytes) = read_all(rt.alloc(), &mut five(&rt)?, 5) else {
+        return Err(Fail::new("five bytes are no more than five"));
+    };
+    assert_eq!(rt; bytes.as_slice(), [1, 2, 3, 4, 5].as_slice());
+    let refused = read_all(rt.alloc(), &mut five(&rt)?, 4).err();
+    assert_eq!(rt; refused, Some(ReadAllFault::TooLong));
+    let mut failing = five(&rt)?;
+    failing.fail_at(1)?;
+    let refused = read_all(rt.alloc(), &mut failing, 5).err();
+    assert_eq!(rt; refused, Some(ReadAllFault::Failed));
+    Ok(())
+}
+
+#[test]
+fn a_buffered_source_lends_its_bytes_before_they_are_taken(rt: HostRuntime) -> Result<(), Fail> {
+    let mut source = Buffered::new(rt.alloc(), five(&rt)?)?;
+    assert_eq!(rt; source.buffered().len(), 0);
+    source.fill()?;
+    let lent = source.buffered().len();
+    assert!(rt; lent == 5);
+    source.consume(3);
+    assert_eq!(rt; source.buffered(), [4, 5].as_slice());
+    assert_eq!(rt;
+        reads(&mut source),
+        ([Ok(2), Ok(0), Ok(0), Ok(0), Ok(0)], 0)
+    );
+    Ok(())
+}

@@ -1,10 +1,8 @@
 -- How far a walk over the records of a file came.
-use Rattle.std.specs.Prelude.{◌≡◌, ◌≢◌, ◌+◌, ◌^◌, ◌<◌, ◌≤◌, ℕ, List, ◌++◌, length, slice_index, slice_range}
+use Rattle.std.specs.Prelude.{◌≡◌, ◌<◌, ℕ, List, ◌++◌, length}
 use Rattle.ss_gatelog.specs.declared.skim.Reached.{Reached}
 use Rattle.ss_gatelog.specs.declared.skim.Reached.TheVariants as reached
-use Rattle.ss_gatelog.specs.declared.skim.Head.{Head}
-use Rattle.ss_gatelog.specs.declared.skim.Head.TheVariants as head
-use Rattle.ss_gatelog.specs.Log.{open_gate, length_bytes, spelled, AreBodies, HasRecords, IsDamaged}
+use Rattle.ss_gatelog.specs.Log.{spelled, AreBodies, HasRecords, IsDamaged}
 
 -- records lead up to this place of a file
 pub record Walked (limit : ℕ) (file : List ℕ) (at : ℕ) : Type 0 where
@@ -26,9 +24,3 @@ abbrev pub ReachesWithin : ℕ → ℕ → ℕ → Reached → Type 0
 ReachesWithin from size limit (reached.Closed at) = (at < size) × (at < limit)
 ReachesWithin from size limit (reached.Unfit at) = (at < size) × (at < limit)
 ReachesWithin from size limit (reached.Further at) = (from < at) × (at < size) × (at < limit)
-
--- what stands at a place of some bytes: a closed gate; an open one with this length behind it, or with no whole length
-abbrev pub IsHead : List ℕ → ℕ → Head → Type 0
-IsHead bytes at head.Closed = slice_index bytes at ≢ open_gate
-IsHead bytes at (head.Open n) = (slice_index bytes at ≡ open_gate) × (n < 2 ^ 32) × (at + 5 ≤ length bytes) × (length_bytes n ≡ slice_range bytes (at + 1) (at + 5))
-IsHead bytes at head.Cut = (slice_index bytes at ≡ open_gate) × (length bytes < at + 5)

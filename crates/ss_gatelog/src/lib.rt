@@ -14,20 +14,29 @@
 //! [`GateLog::open`] gives exactly the list that a file has, or the place at which the file is damaged; that each
 //! file has the one or the other, and only one of it, is in [`laws`].
 //!
-//! No call takes memory, and a record is written as it is lent. There is no checksum: what a crash may leave is
-//! told by the disk's model, and no other damage is looked for in a body. The form is this project's own.
+//! [`Records`] opens a file and lends its bodies one after another, in one pass over the file
+//! (`specs/Records.antt`): over a disk that exposes its files, what it has lent at its end is exactly the list of the
+//! file, and a damage that it answers is the one of the file. It and the log judge a gate by one function.
+//!
+//! No call of a log takes memory, and a record is written as it is lent. A reader takes as much as one record and a
+//! piece need. There is no checksum: what a crash may leave is told by the disk's model, and no other damage is looked
+//! for in a body. The form is this project's own.
 #![tactic(auto)]
 
 mod device;
 mod fault;
 mod frame;
+mod gate;
 pub mod laws;
 mod log;
+mod records;
 mod skim;
 #[cfg(test)]
 mod tests;
+mod window;
 
 pub use device::synced_size;
-pub use fault::LogFault;
+pub use fault::{LogFault, RecordsFault};
 pub use frame::{HEAD, LONGEST_BODY, OPEN, length_of};
 pub use log::GateLog;
+pub use records::Records;

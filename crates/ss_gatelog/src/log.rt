@@ -80,12 +80,21 @@ impl GateLog {
             return GateLog::create(disk, file, limit);
         }
         let end = skim(disk, file, limit, size)?;
-        Ok(GateLog {
+        Ok(GateLog::sure(file, limit, end))
+    }
+
+    /// The log of a file whose first closed gate is known to stand at `end`.
+    pub(crate) fn sure(file: u8, limit: u64, end: u64) -> GateLog
+        requires file { file < 6 }
+        requires end { (end < limit) × (limit ≤ 2 ^ 40) }
+        ensures { result ≡ record { file = file; limit = limit; end = end; unsure = false } }
+    {
+        GateLog {
             file,
             limit,
             end,
             unsure: false,
-        })
+        }
     }
 
     /// Makes a log that is in doubt sure, by closing the gate at its end. So the record of an `append` that is

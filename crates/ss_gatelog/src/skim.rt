@@ -1,12 +1,12 @@
 // A walk over the records of a file, of which only the heads are looked at.
-ghost use Rattle.std.specs.Prelude.{◌≡◌, ◌⊎◌, ◌+◌, ◌^◌, ◌<◌, ◌≤◌, ℕ, List, length, IsTrue, Err, IsErr, IfOk, IsErrOf, MatchOption, slice_range};
+ghost use Rattle.std.specs.Prelude.{◌≡◌, ◌⊎◌, ◌+◌, ◌^◌, ◌<◌, ◌≤◌, ℕ, List, length, IsTrue, Err, IfOk, IsErrOf, slice_range};
 ghost use Rattle.ss_disk.specs.Disk.{Same, Rose};
 ghost use Rattle.ss_disk.specs.Calls.{Goes};
-ghost use Rattle.ss_gatelog.specs.Log.{longest_body, spelled, HasRecords, IsDamaged};
-ghost use Rattle.ss_gatelog.specs.Skim.{Walked, Reaches, ReachesWithin, IsHead};
+ghost use Rattle.ss_gatelog.specs.Log.{spelled, HasRecords, IsDamaged};
+ghost use Rattle.ss_gatelog.specs.Skim.{Walked, Reaches, ReachesWithin};
 
 use crate::LogFault;
-use crate::frame::{HEAD, LONGEST_BODY, OPEN, length_of};
+use crate::gate::{Gate, judge};
 use ss_disk::Disk;
 
 /// How many bytes are read at once: a read of each head alone takes three times as long.
@@ -21,15 +21,6 @@ pub(crate) enum Reached {
     Unfit { at: u64 },
     /// A gate past the piece, or too near its end.
     Further { at: u64 },
-}
-
-/// What stands at a place of a piece.
-#[derive(Clone, Copy, Debug, PartialEq, Eq)]
-pub(crate) enum Head {
-    Closed,
-    Open { length: u32 },
-    /// An open gate, with its length past the piece.
-    Cut,
 }
 
 /// The place of the first closed gate of a file of `size` bytes.
@@ -71,44 +62,14 @@ fn skim_piece(piece: &[u8], at: u64, size: u64, limit: u64) -> Reached
     let mut offset = 0;
     while offset < piece.len() {
         let place = at + offset as u64;
-        match head_at(piece, offset) {
-            Head::Closed => return Reached::Closed { at: place },
-            Head::Cut if size < place + HEAD => return Reached::Unfit { at: place },
-            Head::Cut => return Reached::Further { at: place },
-            Head::Open { length } => match next_gate(place, length, size, limit) {
-                Some(next) => offset = (next - at) as usize,
-                None => return Reached::Unfit { at: place },
-            },
+        match judge(&piece[offset..], place, size, limit) {
+            Gate::Closed => return Reached::Closed { at: place },
+            Gate::Unfit => return Reached::Unfit { at: place },
+            Gate::Cut => return Reached::Further { at: place },
+            Gate::Record { next } => offset = (next - at) as usize,
         }
     }
     Reached::Further {
         at: at + offset as u64,
     }
-}
-
-fn head_at(piece: &[u8], offset: usize) -> Head
-    requires { offset < length piece.now }
-    ensures { IsHead piece.now offset result }
-{
-    if piece[offset] != OPEN {
-        return Head::Closed;
-    }
-    match &piece[offset + 1..] {
-        [a, b, c, d, ..] => Head::Open {
-            length: length_of(&[*a, *b, *c, *d]),
-        },
-        _ => Head::Cut,
-    }
-}
-
-/// The gate behind a record of this length, where it is in the file and in its first `limit` bytes.
-fn next_gate(place: u64, length: u32, size: u64, limit: u64) -> Option<u64>
-    requires { place < 2 ^ 40 }
-    ensures { MatchOption result ((longest_body < length) ⊎ (size ≤ place + 5 + length) ⊎ (limit ≤ place + 5 + length)) (λ next. (next ≡ place + 5 + length) × (length ≤ longest_body) × (next < size) × (next < limit)) }
-{
-    let next = place + HEAD + u64::from(length);
-    if length > LONGEST_BODY || next >= size || next >= limit {
-        return None;
-    }
-    Some(next)
 }

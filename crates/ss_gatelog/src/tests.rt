@@ -1,5 +1,7 @@
 ghost use Rattle.std.specs.Prelude.{◌<◌, length};
 
+mod records;
+
 use super::*;
 use ss_disk::{Disk, MemoryDisk};
 use std::alloc::Global;

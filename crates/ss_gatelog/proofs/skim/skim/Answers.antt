@@ -3,7 +3,7 @@ use Rattle.std.specs.Prelude.{slice_range}
 use Rattle.ss_disk.specs.Disk.{Files}
 use Rattle.ss_disk.proofs.Goes.{asked, then_same}
 use Rattle.ss_gatelog.specs.Log.{IsDamaged}
-use Rattle.ss_gatelog.proofs.Walks.{read_piece}
+use Rattle.ss_gatelog.proofs.Pieces.{read_piece}
 use Rattle.ss_gatelog.proofs.skim.skim.Goals as goal
 
 pub returns-in_err-read-clause-reads : goal.returns-in_err-read-clause-reads

@@ -1,6 +1,7 @@
-use Rattle.std.proofs.Common.{◌≡◌, ap, subst, arith, ℕ, List, Err}
+use Rattle.std.proofs.Common.{◌≡◌, sym, ap, subst, arith, ℕ, List, Err}
 use Rattle.ss_disk.specs.Disk.{Files}
-use Rattle.ss_gatelog.specs.Log.{IsDamaged, HasRecords}
+use Rattle.ss_gatelog.specs.Log.{IsDamaged, HasRecords, HasList}
+use Rattle.ss_gatelog.specs.GateLog.{Log, IsSure}
 use Rattle.ss_gatelog.specs.declared.fault.LogFault.{LogFault}
 use Rattle.ss_gatelog.specs.declared.fault.LogFault.TheVariants as fault_kinds
 use Rattle.std.proofs.lemmas.Result.{err_from_is_err_and}
@@ -35,7 +36,8 @@ returns-clause-opened g c told =
     let settled = settled_on g.D.Disk c.args.file _ _ _ told c.skim.ensures.reads (c.in_ok-size.ensures.settled told) in
     let found = c.in_ok-end.ensures.ok told in
     let file : g.D.Disk.files c.synced_size.new.disk c.args.file ≡ g.D.Disk.files c.args.disk.now c.args.file = ap (λ (f : Files). f c.args.file) (c.synced_size.ensures.goes.files told) in
-    opens_list g.D.Disk c.args.file c.args.limit _ _ _ settled (found.0, subst (λ (f : List ℕ). HasRecords c.args.limit f found.0) file found.1, found.2)
+    subst (λ (log : Log). (records : List (List ℕ)) × HasList c.args.limit (g.D.Disk.files c.args.disk.now c.args.file) records × IsSure g.D.Disk c.skim.new.disk log records) (sym c.sure.ensures)
+    (opens_list g.D.Disk c.args.file c.args.limit _ _ _ settled (found.0, subst (λ (f : List ℕ). HasRecords c.args.limit f found.0) file found.1, found.2))
 
 pub returns-clause-goes : goal.returns-clause-goes
 returns-clause-goes g c = opens_reading g.D.Disk c.args.file _ _ _ (then_same g.D.Disk _ _ _ _ c.synced_size.ensures.goes c.skim.ensures.reads)

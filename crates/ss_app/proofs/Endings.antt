@@ -12,8 +12,8 @@ use Rattle.ss_disk.specs.Disk.{Same}
 use Rattle.ss_disk.specs.Calls.{Goes}
 use Rattle.ss_app.specs.declared.TheConstants.{SCRIPT_BYTES}
 use Rattle.ss_app.specs.declared.script.Line.{Line}
-use Rattle.ss_app.specs.declared.input.InputFault.{InputFault}
-use Rattle.ss_app.specs.declared.input.InputFault.TheVariants as input
+use Rattle.ss_io.specs.declared.whole.ReadAllFault.{ReadAllFault}
+use Rattle.ss_io.specs.declared.whole.ReadAllFault.TheVariants as input
 use Rattle.ss_app.specs.declared.script.ScriptFault.{ScriptFault}
 use Rattle.ss_app.specs.declared.script.ScriptFault.TheVariants.{Bad}
 use Rattle.ss_app.specs.declared.script.ScriptFault.TheVariants as script_fault
@@ -99,9 +99,9 @@ module _ {D : Type 0} (disk : Ghosts D) (was is : D) (left behind : Option (List
   too_long goes long said = no_call ends.TooLong goes (refl, long) (λ script lines valid. let more = long script valid.told in let most = valid.asks.0 in absurd (omega (arith, more, most))) said
 
   -- the source is not read to its end
-  pub input_refused : (fault : InputFault) → Goes disk Same was is → (fault ≡ input.Read → Rose before now) → (fault ≡ input.TooLong → IsTooLong left)
+  pub input_refused : (fault : ReadAllFault) → Goes disk Same was is → (fault ≡ input.Failed → Rose before now) → (fault ≡ input.TooLong → IsTooLong left)
       → Says old new had has (line_of (ending_of_input fault)) (status_of (ending_of_input fault)) status → Traced disk was is left behind before now old new had has status
-  input_refused input.Read goes rose long said = read_fault goes (rose refl) said
+  input_refused input.Failed goes rose long said = read_fault goes (rose refl) said
   input_refused input.TooLong goes rose long said = too_long goes (long refl) said
   input_refused input.NoMemory goes rose long said = no_memory goes said
 

@@ -3,8 +3,8 @@ use Rattle.std.specs.Prelude.{ℕ, List, [], ◌∷◌, ◌++◌, codes, Result,
 use Rattle.std.specs.List.{flat_map}
 use Rattle.std.specs.Fmt.{decimal}
 use Rattle.ss_io.specs.declared.failed.Failed.{Failed}
-use Rattle.ss_app.specs.declared.input.InputFault.{InputFault}
-use Rattle.ss_app.specs.declared.input.InputFault.TheVariants as input
+use Rattle.ss_io.specs.declared.whole.ReadAllFault.{ReadAllFault}
+use Rattle.ss_io.specs.declared.whole.ReadAllFault.TheVariants as input
 use Rattle.ss_app.specs.declared.script.ScriptFault.{ScriptFault}
 use Rattle.ss_app.specs.declared.script.ScriptFault.TheVariants as script
 use Rattle.ss_app.specs.declared.script.ScriptKind.{ScriptKind}
@@ -15,8 +15,8 @@ use Rattle.ss_app.specs.declared.store.OpenFault.{OpenFault}
 use Rattle.ss_app.specs.declared.store.OpenFault.TheVariants as opening
 
 -- the ending of a run whose source is not read to its end
-abbrev pub ending_of_input : InputFault → Ending
-ending_of_input input.Read = ReadFault
+abbrev pub ending_of_input : ReadAllFault → Ending
+ending_of_input input.Failed = ReadFault
 ending_of_input input.TooLong = TooLong
 ending_of_input input.NoMemory = NoMemory
 

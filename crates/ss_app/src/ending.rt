@@ -5,11 +5,10 @@ ghost use Rattle.ss_io.specs.Causes.{HasCause};
 ghost use Rattle.ss_io.specs.Written.{PutAppends};
 ghost use Rattle.ss_app.specs.Ending.{status_of, line_of, number_text, numbers_text};
 
-use crate::input::InputFault;
 use crate::script::{ScriptFault, ScriptKind};
 use crate::store::OpenFault;
 use itoa::Buffer;
-use ss_io::{Failed, Sink};
+use ss_io::{Failed, ReadAllFault, Sink};
 
 /// How a run ends, but for a sink that failed.
 #[derive(Clone, Copy, Debug, PartialEq, Eq)]
@@ -37,17 +36,17 @@ pub enum Ending {
     TooLong,
 }
 
-impl From<InputFault> for Ending {
+impl From<ReadAllFault> for Ending {
     ghost use Rattle.std.specs.Prelude.{◌≡◌};
     ghost use Rattle.ss_app.specs.Ending.{ending_of_input};
 
     ghost from_gives = { λ fault ending. ending ≡ ending_of_input fault };
 
-    fn from(fault: InputFault) -> Ending {
+    fn from(fault: ReadAllFault) -> Ending {
         match fault {
-            InputFault::Read => Ending::ReadFault,
-            InputFault::TooLong => Ending::TooLong,
-            InputFault::NoMemory => Ending::NoMemory,
+            ReadAllFault::Failed => Ending::ReadFault,
+            ReadAllFault::TooLong => Ending::TooLong,
+            ReadAllFault::NoMemory => Ending::NoMemory,
         }
     }
 }

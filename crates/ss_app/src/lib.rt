@@ -13,7 +13,7 @@
 //! faults. What is said of bytes holds over ends that tell them, and what is said of states over disks that tell their
 //! files.
 //!
-//! A run goes through the words (`words`), the input (`input`), the script (`script`), the store (`store`, with `blocks`
+//! A run goes through the words (`words`), the script (`script`), the store (`store`, with `blocks`
 //! and `fresh` for what a put stores), the views of the clients (`views`) and the printed text (`text`) to the ending
 //! (`ending`). Words, script and text are forms of this project's own.
 #![tactic(auto)]
@@ -22,7 +22,6 @@ mod blocks;
 mod ending;
 mod fresh;
 mod help;
-mod input;
 pub mod laws;
 mod pieces;
 mod run;

@@ -21,9 +21,9 @@ ghost use Rattle.ss_app.specs.Stands.{Serves};
 ghost use Rattle.ss_app.specs.Text.{entry_text};
 ghost use Rattle.ss_app.specs.Words.{command_of};
 
+use crate::SCRIPT_BYTES;
 use crate::ending::Ending;
 use crate::help::{HELP, VERSION};
-use crate::input::read_all;
 use crate::script::{Line, read_script};
 use crate::store::{Store, init};
 use crate::text::{PrintFault, write_entry};
@@ -31,7 +31,7 @@ use crate::views::Views;
 use crate::words::{Command, command_of};
 use ss_cid::NoMemory;
 use ss_disk::Disk;
-use ss_io::{Failed, Sink, Source};
+use ss_io::{Failed, Sink, Source, read_all};
 use ss_model::Entry;
 use ss_records::Config;
 use std::alloc::Global;
@@ -312,7 +312,7 @@ fn trace<S: Source, K: Sink, D: Disk>(
 ) -> Result<Ending, Failed>
     ensures { Traced D.Disk disk.old disk.new (S.left source.old) (S.left source.new) (S.faults source.old) (S.faults source.new) (K.written sink.old) (K.written sink.new) (K.faults sink.old) (K.faults sink.new) (status_after result) }
 {
-    let text = match read_all(alloc, source) {
+    let text = match read_all(alloc, source, SCRIPT_BYTES) {
         Ok(text) => text,
         Err(fault) => return finish(sink, Ending::from(fault)),
     };

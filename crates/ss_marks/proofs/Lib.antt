@@ -1,0 +1,13 @@
+pub mod Chains
+pub mod Walks
+pub mod Rows
+pub mod Joins
+pub mod Colours
+pub mod Marked
+pub mod Stacks
+pub mod Changes
+pub mod Calls
+pub mod Whitened
+pub mod Fresh
+pub mod Membership
+pub mod Prefixes

@@ -1,0 +1,27 @@
+use Rattle.std.proofs.Common.{◌≡◌, ◌+◌, ◌<◌, Some, length, get_or, set, sym, ap, subst, ◌∙◌, arith}
+use Rattle.std.proofs.lemmas.List.{get_or_read, get_or_default}
+use Rattle.ss_marks.specs.Rows.{no_row, row_at, slot_of}
+use Rattle.ss_marks.specs.Index.{IsChained, slot_at}
+use Rattle.ss_marks.proofs.Rows.{coloured_within, slot_at-live}
+use Rattle.ss_marks.proofs.Joins.{inserted, length_heads}
+use Rattle.ss_marks.proofs.index.Index.insert.Goals as goal
+
+pub returns-clause-index : goal.returns-clause-index
+returns-clause-index c =
+    let rows = c.args.rows.now in
+    let row = c.args.row in
+    let heads = c.args.self.now.heads.items in
+    let below = c.args.self.now.below.items in
+    let slot = c.slot_of-slot.result in
+    let read = get_or_default rows row c.index-rows-row.result no_row (coloured_within rows row c.requires.live) in
+    let count : c.len.result ≡ length heads = c.len.ensures ∙ c.args.self.now.heads.ok.0 in
+    let here : slot_at rows (length heads) row ≡ Some slot =
+    slot_at-live rows (length heads) row c.requires.live
+    ∙ ap Some (ap (λ r. slot_of r.cid (length heads)) (sym read) ∙ ap (slot_of (get_or rows row c.index-rows-row.result).cid) (sym count) ∙ sym c.slot_of-slot.ensures.value) in
+    let in' : slot < length heads = subst (λ n. slot < n) count c.slot_of-slot.ensures.within in
+    let done = inserted (slot_at rows (length heads)) heads below slot row c.above-above.result c.above-above.ensures in' c.requires.within here c.requires.index
+      c.set_pointer.new.self.heads.items (set below row c.pointer.result) c.set_pointer.new.self.below.items
+      (ap (set below row) c.pointer.ensures) c.set_pointer.ensures.heads c.set_pointer.ensures.below in
+    subst (λ n. IsChained (slot_at rows n) c.set_pointer.new.self.heads.items c.set_pointer.new.self.below.items)
+    (sym (ap length c.set_pointer.ensures.heads ∙ length_heads c.above-above.result heads slot (row + 1)))
+    done

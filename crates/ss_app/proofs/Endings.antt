@@ -2,7 +2,7 @@
 use Rattle.std.proofs.Common.{◌≡◌, ◌⊎◌, inl, inr, Bool, true, false, ℕ, ◌≤◌, List, [], ◌++◌, Option, Some, None, Ok, Err, refl, sym, ap, ◌∙◌, subst, length, append_assoc, arith}
 use Rattle.std.specs.Prelude.{IsTrue}
 use Rattle.ss_io.specs.Written.{AppendsFront}
-use Rattle.ss_app.specs.Text.{text}
+use Rattle.ss_script.specs.Text.{text}
 use Rattle.std.specs.Io.KnownBytes.{Appends, Consumes, IsAtEnd}
 use Rattle.std.proofs.lemmas.List.{append-nil}
 use Rattle.ss_app.proofs.Appending.{appends_more, front_behind, front_of_more, front_whole}
@@ -11,12 +11,12 @@ use Rattle.ss_disk.specs.declared.disk.Disk.{Ghosts}
 use Rattle.ss_disk.specs.Disk.{Same}
 use Rattle.ss_disk.specs.Calls.{Goes}
 use Rattle.ss_app.specs.declared.TheConstants.{SCRIPT_BYTES}
-use Rattle.ss_app.specs.declared.script.Line.{Line}
+use Rattle.ss_script.specs.declared.line.Line.{Line}
 use Rattle.ss_io.specs.declared.whole.ReadAllFault.{ReadAllFault}
 use Rattle.ss_io.specs.declared.whole.ReadAllFault.TheVariants as input
-use Rattle.ss_app.specs.declared.script.ScriptFault.{ScriptFault}
-use Rattle.ss_app.specs.declared.script.ScriptFault.TheVariants.{Bad}
-use Rattle.ss_app.specs.declared.script.ScriptFault.TheVariants as script_fault
+use Rattle.ss_script.specs.declared.fault.ScriptFault.{ScriptFault}
+use Rattle.ss_script.specs.declared.fault.ScriptFault.TheVariants.{Bad}
+use Rattle.ss_script.specs.declared.fault.ScriptFault.TheVariants as script_fault
 use Rattle.ss_app.specs.declared.ending.Ending.{Ending}
 use Rattle.ss_app.specs.declared.ending.Ending.TheVariants.{Done, NoMemory, BadScript}
 use Rattle.ss_app.specs.declared.ending.Ending.TheVariants as ends
@@ -36,7 +36,8 @@ use Rattle.ss_app.proofs.Still.{same_touches}
 use Rattle.ss_app.proofs.Fulfilled.{fulfilled, no_faults, err_or_ok, oks}
 use Rattle.ss_app.specs.Outcome.{Says, Traced, Made, HasReason, IsWhole, AsksFor, Asks, IsLegalFrom, IsValidTrace}
 use Rattle.ss_app.specs.Room.{IsFulfilled, faults_in, is_refused}
-use Rattle.ss_app.specs.Script.{script_of}
+use Rattle.ss_script.specs.declared.TheConstants.{CLIENTS}
+use Rattle.ss_script.specs.Script.{script_of}
 
 -- what was read is what the source had left
 read_whole : (left behind : Option (List ℕ)) (text script : List ℕ) → Consumes left behind text → IsAtEnd behind → left ≡ Some script → text ≡ script
@@ -68,7 +69,7 @@ whole_of_none (BadScript line kind) = tt
 whole_of_none ends.TooLong = tt
 
 -- what the source had left asks for the lines that were read
-pub asks_for : (left behind : Option (List ℕ)) (bytes : List ℕ) (lines : List Line) → Consumes left behind bytes → IsAtEnd behind → length bytes ≤ SCRIPT_BYTES → script_of bytes ≡ Ok lines → ForSome left (λ script. AsksFor script lines)
+pub asks_for : (left behind : Option (List ℕ)) (bytes : List ℕ) (lines : List Line) → Consumes left behind bytes → IsAtEnd behind → length bytes ≤ SCRIPT_BYTES → script_of CLIENTS bytes ≡ Ok lines → ForSome left (λ script. AsksFor script lines)
 asks_for left behind bytes lines took ended short asks script told = subst (λ t. AsksFor t lines) (read_whole left behind bytes script took ended told) (short, asks)
 
 module _ {D : Type 0} (disk : Ghosts D) (was is : D) (left behind : Option (List ℕ)) (before now : ℕ) (old new : Option (List ℕ)) (had has status : ℕ) where
@@ -107,13 +108,13 @@ module _ {D : Type 0} (disk : Ghosts D) (was is : D) (left behind : Option (List
 
   -- the script is not read
   pub script_refused : (bytes : List ℕ) (fault : ScriptFault) → Goes disk Same was is
-      → Consumes left behind bytes → IsAtEnd behind → length bytes ≤ SCRIPT_BYTES → (fault ≡ script_fault.NoMemory) ⊎ (script_of bytes ≡ Err fault)
+      → Consumes left behind bytes → IsAtEnd behind → length bytes ≤ SCRIPT_BYTES → (fault ≡ script_fault.NoMemory) ⊎ (script_of CLIENTS bytes ≡ Err fault)
       → Says old new had has (line_of (ending_of fault)) (status_of (ending_of fault)) status → Traced disk was is left behind before now old new had has status
   script_refused bytes script_fault.NoMemory goes took ended short why said = no_memory goes said
   script_refused bytes (Bad line kind) goes took ended short (inl none) said = absurd (cc)
   script_refused bytes (Bad line kind) goes took ended short (inr bad) said = no_call (BadScript line kind) goes
-      (refl, λ script told. subst (λ t. (length t ≤ SCRIPT_BYTES) × (script_of t ≡ Err (Bad line kind))) (read_whole left behind bytes script took ended told) (short, bad))
-      (λ script lines valid. absurd (err_or_ok _ _ _ (sym (ap script_of (read_whole left behind bytes script took ended valid.told)) ∙ bad) valid.asks.1)) said
+      (refl, λ script told. subst (λ t. (length t ≤ SCRIPT_BYTES) × (script_of CLIENTS t ≡ Err (Bad line kind))) (read_whole left behind bytes script took ended told) (short, bad))
+      (λ script lines valid. absurd (err_or_ok _ _ _ (sym (ap (script_of CLIENTS) (read_whole left behind bytes script took ended valid.told)) ∙ bad) valid.asks.1)) said
 
   -- the store is not opened
   pub store_refused : (fault : OpenFault) → Goes disk Same was is → Asks left
@@ -136,7 +137,7 @@ module _ {D : Type 0} (disk : Ghosts D) (was is : D) (left behind : Option (List
 
   -- why a run that made these calls ends so
   made_reason : (mid : Option (List ℕ)) (held : ℕ) (bytes : List ℕ) (lines : List Line) (ending : Ending) (refused : Bool)
-      → Consumes left behind bytes → IsAtEnd behind → now ≡ before → length bytes ≤ SCRIPT_BYTES → script_of bytes ≡ Ok lines
+      → Consumes left behind bytes → IsAtEnd behind → now ≡ before → length bytes ≤ SCRIPT_BYTES → script_of CLIENTS bytes ≡ Ok lines
       → (m : Made disk was is lines old mid had held ending refused) → (ending ≡ Done) ⊎ (ending ≡ NoMemory) → HasReason disk was is left behind before now m.history ending
   made_reason mid held bytes lines ending refused took ended sound short asks m (inl done) =
       let all : lines ≡ m.made = m.lines_are ∙ ap (λ l. m.made ++ l) (m.all_made done) ∙ append-nil m.made in
@@ -150,13 +151,13 @@ module _ {D : Type 0} (disk : Ghosts D) (was is : D) (left behind : Option (List
 
   -- a valid run that made its calls was not refused any, but for want of memory
   made_complete : (mid : Option (List ℕ)) (held : ℕ) (bytes : List ℕ) (lines : List Line) (ending : Ending) (refused : Bool)
-      → Consumes left behind bytes → IsAtEnd behind → script_of bytes ≡ Ok lines
+      → Consumes left behind bytes → IsAtEnd behind → script_of CLIENTS bytes ≡ Ok lines
       → (m : Made disk was is lines old mid had held ending refused) → (ending ≡ Done) ⊎ (ending ≡ NoMemory)
       → (script : List ℕ) (asked : List Line) → IsValidTrace disk was is left before now had has script asked → (ending ≡ NoMemory) ⊎ ((ending ≡ Done) × IsFulfilled m.history)
   made_complete mid held bytes lines ending refused took ended asks m (inr none) script asked valid = inl none
   made_complete mid held bytes lines ending refused took ended asks m (inl done) script asked valid =
       let all : lines ≡ m.made = m.lines_are ∙ ap (λ l. m.made ++ l) (m.all_made done) ∙ append-nil m.made in
-      let same : lines ≡ asked = oks _ _ (sym asks ∙ ap script_of (read_whole left behind bytes script took ended valid.told) ∙ valid.asks.1) in
+      let same : lines ≡ asked = oks _ _ (sym asks ∙ ap (script_of CLIENTS) (read_whole left behind bytes script took ended valid.told) ∙ valid.asks.1) in
       let order : InOrder [] asked m.history = subst (λ l. InOrder [] l m.history) (sym all ∙ same) m.in_order in
       let none : faults_in m.history ≡ 0 = no_faults (disk.faults was) (disk.faults is) (faults_in m.history) m.is_history.counted valid.faults in
       inr (done, legal_complete m.history (m.is_history.legal valid.tells) order none valid)
@@ -166,7 +167,7 @@ module _ {D : Type 0} (disk : Ghosts D) (was is : D) (left behind : Option (List
       legal_complete h (inr l) order sound valid = inl (fulfilled l.state l.end h l.legal l.rooms (valid.place l.state l.end h l.stands order l.legal) sound)
 
   pub traced : (mid : Option (List ℕ)) (held : ℕ) (bytes : List ℕ) (lines : List Line) (ending : Ending)
-      → Consumes left behind bytes → IsAtEnd behind → now ≡ before → length bytes ≤ SCRIPT_BYTES → script_of bytes ≡ Ok lines
+      → Consumes left behind bytes → IsAtEnd behind → now ≡ before → length bytes ≤ SCRIPT_BYTES → script_of CLIENTS bytes ≡ Ok lines
       → Made disk was is lines old mid had held ending false → Says mid new held has (line_of ending) (status_of ending) status → Traced disk was is left behind before now old new had has status
   traced mid held bytes lines ending took ended sound short asks m said = record {
     ending = ending;
@@ -183,7 +184,7 @@ module _ {D : Type 0} (disk : Ghosts D) (was is : D) (left behind : Option (List
 
   -- the same where the sink refused a line
   pub traced_refused : (script : List ℕ) (lines : List Line) (ending : Ending)
-      → Consumes left behind script → IsAtEnd behind → now ≡ before → length script ≤ SCRIPT_BYTES → script_of script ≡ Ok lines
+      → Consumes left behind script → IsAtEnd behind → now ≡ before → length script ≤ SCRIPT_BYTES → script_of CLIENTS script ≡ Ok lines
       → Made disk was is lines old new had has ending true → status ≡ 5 → Traced disk was is left behind before now old new had has status
   traced_refused script lines ending took ended sound short asks m five = record {
     ending = ending;

@@ -1,16 +1,11 @@
 pub mod Apart
 pub mod Appending
-pub mod CidDigits
-pub mod ClientViews
-pub mod Clients
 pub mod Endings
 pub mod Faults
 pub mod Fulfilled
 pub mod Gets
 pub mod NewPairs
-pub mod Numbers
 pub mod Openings
-pub mod Pairs
 pub mod PutBytes
 pub mod Puts
 pub mod Refusals
@@ -19,7 +14,6 @@ pub mod Reopened
 pub mod Rooms
 pub mod Sayings
 pub mod Serving
-pub mod Splits
 pub mod Steps
 pub mod Still
 pub mod StorePuts

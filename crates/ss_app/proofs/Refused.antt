@@ -7,7 +7,7 @@ use Rattle.ss_records.specs.declared.record.Config.{Config as Settings}
 use Rattle.ss_hot.specs.File.{HasSettings, IsDamagedHalf}
 use Rattle.ss_model.specs.declared.call.Entry.{Entry}
 use Rattle.ss_app.specs.declared.TheConstants.{SCRIPT_BYTES}
-use Rattle.ss_app.specs.declared.script.Line.{Line}
+use Rattle.ss_script.specs.declared.line.Line.{Line}
 use Rattle.ss_app.specs.declared.ending.Ending.{Ending}
 use Rattle.ss_app.specs.declared.ending.Ending.TheVariants as ends
 use Rattle.ss_app.specs.Ending.{status_of}

@@ -1,12 +1,9 @@
 -- How far a run has come: the entries so far, what they left of the store, and what was printed of them.
-use Rattle.std.proofs.Common.{◌≡◌, inl, inr, ℕ, suc, min, ◌<◌, ◌≤◌, ◌+◌, ◌-◌, ◌^◌, Bool, true, false, List, [], ◌∷◌, ◌++◌, length, Option, Some, Result, Ok, Err, refl, sym, ap, ◌∙◌, subst, append_assoc, arith, add-zero, get_or, set, length-set, length-append, true≢false}
+use Rattle.std.proofs.Common.{◌≡◌, inl, inr, ℕ, suc, min, ◌<◌, ◌≤◌, ◌+◌, ◌-◌, ◌^◌, Bool, true, false, List, [], ◌∷◌, ◌++◌, length, Option, Some, Result, Ok, Err, refl, sym, ap, ◌∙◌, subst, append_assoc, arith, add-zero, length-append, true≢false}
 use Rattle.std.specs.Io.KnownBytes.{Appends}
-use Rattle.std.proofs.lemmas.List.{append-nil, get_or-replicate, get_or-set_same, get_or-set_other}
-use Rattle.std.proofs.lemmas.Bool.{eqb-true}
-use Rattle.std.proofs.Common.{eq-eqb, ◌≢◌}
-use Rattle.std.proofs.lemmas.Grind.{flat_map-append}
+use Rattle.std.proofs.lemmas.List.{append-nil}
 use Rattle.std.proofs.lemmas.List.Elements.{All-pop}
-use Rattle.std.specs.Prelude.{if◌then◌else◌, ◌==◌, replicate, OnOk, IsTrue}
+use Rattle.std.specs.Prelude.{if◌then◌else◌, OnOk, IsTrue}
 use Rattle.ss_io.specs.Causes.{Rose}
 use Rattle.ss_cid.specs.declared.memory.NoMemory as no_memory
 use Rattle.ss_disk.specs.declared.disk.Disk.{Ghosts}
@@ -24,7 +21,7 @@ use Rattle.ss_model.specs.declared.call.Answer.{Answer}
 use Rattle.ss_model.specs.declared.call.Answer.TheVariants as answer
 use Rattle.ss_model.specs.declared.call.PutReply.TheVariants as put
 use Rattle.ss_model.specs.declared.call.Entry.{Entry}
-use Rattle.ss_app.specs.declared.script.Line.{Line}
+use Rattle.ss_script.specs.declared.line.Line.{Line}
 use Rattle.ss_app.specs.declared.ending.Ending.TheVariants.{Done, NoMemory}
 use Rattle.ss_app.specs.Outcome.{Made, IsHistory, HasStore}
 use Rattle.ss_app.specs.Printing.{PrintsUnless}
@@ -32,10 +29,11 @@ use Rattle.ss_app.specs.Room.{OfFullLog, AreCounted, HasRoomsBy, HadRoom, AreRoo
 use Rattle.ss_cid.specs.Cid.{identity_of}
 use Rattle.std.specs.Prelude.{is_some}
 use Rattle.ss_model.specs.declared.call.GetReply.TheVariants as get
-use Rattle.ss_app.specs.Run.{IsEntryOf, InOrder, views_of, views_given, client_views, with_entry, with_views, resolved}
+use Rattle.ss_app.specs.Run.{IsEntryOf, InOrder}
+use Rattle.ss_script.specs.Views.{AreViews, views_of, resolved}
 use Rattle.ss_app.specs.Progress.{Trail, Story, Progress, Cut, Stepped, end_behind}
 use Rattle.ss_app.specs.Stands.{StandsFor, Serves}
-use Rattle.ss_app.specs.Text.{text_from, entry_text}
+use Rattle.ss_script.specs.Text.{text_from, entry_text}
 use Rattle.ss_app.proofs.Appending.{appends_more, appends_none}
 use Rattle.ss_app.proofs.Reopened.{begins_again, table_fits}
 use Rattle.ss_app.proofs.Still.{same_touches}
@@ -216,7 +214,7 @@ trail_more h unprinted refused now made old mid new had was has line e front res
 
 -- what is printed, or why not, and what is left of the text
 prints : (refused now : Bool) (mid new : Option (List ℕ)) (had was has : ℕ) (unprinted line : List ℕ)
-    → PrintsUnless refused mid new was has (Ok now) line → (refused ≡ false → unprinted ≡ []) → (refused ≡ false → was ≡ had) → (refused ≡ true → Rose had was)
+    → PrintsUnless refused mid new was has now line → (refused ≡ false → unprinted ≡ []) → (refused ≡ false → was ≡ had) → (refused ≡ true → Rose had was)
     → (front : List ℕ) × (rest : List ℕ) × (unprinted ++ line ≡ front ++ rest) × Appends mid new front × (now ≡ false → has ≡ had) × (now ≡ true → Rose had has) × (now ≡ false → rest ≡ [])
 prints true now mid new had was has unprinted line h none sound rose =
     ([], unprinted ++ line, refl, h.1, λ e. absurd (true≢false (sym h.0 ∙ e)), λ e. subst (Rose had) (sym h.2) (rose refl), λ e. absurd (true≢false (sym h.0 ∙ e)))
@@ -224,37 +222,6 @@ prints false true mid new had was has unprinted line h none sound rose =
     (h.0.0, h.0.1, ap (λ u. u ++ line) (none refl) ∙ h.0.2, h.0.3, λ e. absurd (true≢false e), λ e. subst (λ n. Rose n has) (sound refl) h.1, λ e. absurd (true≢false e))
 prints false false mid new had was has unprinted line h none sound rose =
     (line, [], ap (λ u. u ++ line) (none refl) ∙ sym (append-nil line), h.0, λ e. h.1 ∙ sound refl, λ e. absurd (true≢false (sym e)), λ e. refl)
-
-nothing_given : (b : Bool) → ◌≡◌ {A = List ℕ} (if b then [] else []) []
-nothing_given true = refl
-nothing_given false = refl
-
--- what a client has when views are given to one
-given_to : (views : List (List ℕ)) (client : ℕ) (given : List ℕ) (c : ℕ) → length views ≡ 8 → client < 8 → c < 8 → client_views (with_views views client given) c ≡ client_views views c ++ (if client == c then given else [])
-given_to views client [] c len fits below = sym (append-nil _) ∙ ap (λ v. client_views views c ++ v) (sym (nothing_given (client == c)))
-given_to views client (v ∷ more) c len fits below = by_client (client == c) refl
-  where
-    by_client : (b : Bool) → (client == c) ≡ b → get_or (set views client (client_views views client ++ v ∷ more)) c [] ≡ client_views views c ++ (if b then v ∷ more else [])
-    by_client true e =
-        let same : client ≡ c = eqb-true _ _ e in
-        subst (λ k. get_or (set views client (client_views views client ++ v ∷ more)) k [] ≡ client_views views k ++ v ∷ more) same (get_or-set_same views client _ [] (subst (λ n. client < n) (sym len) fits))
-    by_client false e =
-        let other : c ≢ client = λ is. true≢false (sym (eq-eqb client c (sym is)) ∙ e) in
-        get_or-set_other views client c _ [] other ∙ sym (append-nil _)
-
-length-with_views : (views : List (List ℕ)) (client : ℕ) (given : List ℕ) → length (with_views views client given) ≡ length views
-length-with_views views client [] = refl
-length-with_views views client (v ∷ more) = length-set views client _
-
--- the views of the clients behind one entry more
-views_more : (views : List (List ℕ)) (h : List Entry) (e : Entry) → length views ≡ 8 → e.client < 8 → ((c : ℕ) → c < 8 → client_views views c ≡ views_of c h) → (c : ℕ) → c < 8 → client_views (with_entry views e) c ≡ views_of c (h ++ e ∷ [])
-views_more views h e len fits are c below =
-    given_to views e.client (views_given e.answer) c len fits below
-    ∙ ap (λ v. v ++ (if e.client == c then views_given e.answer else [])) (are c below)
-    ∙ sym (flat_map-append (λ x. if x.client == c then views_given x.answer else []) h (e ∷ []) ∙ ap (λ v. views_of c h ++ v) (append-nil _))
-
-length-with_entry : (views : List (List ℕ)) (e : Entry) → length (with_entry views e) ≡ length views
-length-with_entry views e = length-with_views views e.client (views_given e.answer)
 
 -- no answer changes the settings
 config_stays : (s : State) (k : Call) (a : Answer) → (After s k a).config ≡ s.config
@@ -301,25 +268,17 @@ begun_story disk was is hot opened goes serves known sure = record {
 
 module _ {D : Type 0} (disk : Ghosts D) (was : D) where
   -- an entry is made, and printed as far as the sink goes along
-  pub made_one : (mid is : D) (hot next : Hot) (opened given_open : ℕ) (views : List (List ℕ)) (place : ℕ) (refused now : Bool) (made : List Line) (old half new : Option (List ℕ)) (had held has : ℕ) (line : Line) (e : Entry)
-      → Progress disk was mid hot opened views place refused made old half had held
-      → line.client < 8 → e.client ≡ line.client → e.line ≡ line.line → e.call ≡ resolved (client_views views line.client) line.call
+  one_more : (mid is : D) (hot next : Hot) (opened given_open : ℕ) (views : List (List ℕ)) (place : ℕ) (refused now : Bool) (made : List Line) (old half new : Option (List ℕ)) (had held has : ℕ) (line : Line) (e : Entry)
+      → (p : Progress disk was mid hot opened views place refused made old half had held)
+      → e.client ≡ line.client → e.line ≡ line.line → ((h : List Entry) → AreViews views h → e.call ≡ resolved (views_of line.client h) line.call)
       → ((h : List Entry) → Story disk was mid hot opened h → Story disk was is next given_open (h ++ e ∷ []))
-      → PrintsUnless refused half new held has (Ok now) (entry_text (place + 1) e)
-      → Progress disk was is next given_open (with_entry views e) (place + 1) now (made ++ line ∷ []) old new had has
-  made_one mid is hot next opened given_open views place refused now made old half new had held has line e p fits client number call story printed =
-      let mine : IsEntryOf p.history line e = record { client = client; line_is = number; call_is = call ∙ ap (λ v. resolved v line.call) (p.views_are line.client fits) } in
+      → PrintsUnless refused half new held has now (entry_text (place + 1) e)
+      → (unprinted : List ℕ) × Trail (p.history ++ e ∷ []) unprinted now (made ++ line ∷ []) old new had has × (now ≡ false → unprinted ≡ []) × Story disk was is next given_open (p.history ++ e ∷ [])
+  one_more mid is hot next opened given_open views place refused now made old half new had held has line e p client number call story printed =
+      let mine : IsEntryOf p.history line e = record { client = client; line_is = number; call_is = call p.history p.views_are } in
       let at : place + 1 ≡ 1 + length p.history = omega (arith, p.place_is) in
-      let cut = prints refused now half new had held has p.unprinted (entry_text (1 + length p.history) e) (subst (λ n. PrintsUnless refused half new held has (Ok now) (entry_text n e)) at printed) p.all_printed p.trail.sound p.trail.rose in record {
-        history = p.history ++ e ∷ [];
-        unprinted = cut.1;
-        trail = trail_more p.history p.unprinted refused now made old half new had held has line e cut.0 cut.1 p.trail mine cut.2 cut.3 cut.4 cut.5;
-        all_printed = cut.6;
-        story = story p.history p.story;
-        views_are = views_more views p.history e p.views_len (subst (λ n. n < 8) (sym client) fits) p.views_are;
-        views_len = length-with_entry views e ∙ p.views_len;
-        place_is = ap (λ n. n + 1) p.place_is ∙ sym (length-append p.history (e ∷ []));
-      }
+      let cut = prints refused now half new had held has p.unprinted (entry_text (1 + length p.history) e) (subst (λ n. PrintsUnless refused half new held has now (entry_text n e)) at printed) p.all_printed p.trail.sound p.trail.rose in
+      (cut.1, trail_more p.history p.unprinted refused now made old half new had held has line e cut.0 cut.1 p.trail mine cut.2 cut.3 cut.4 cut.5, cut.6, story p.history p.story)
 
   pub cut_of : (is : D) (hot : Hot) (opened : ℕ) (views : List (List ℕ)) (place : ℕ) (refused : Bool) (made : List Line) (old new : Option (List ℕ)) (had has : ℕ) → Progress disk was is hot opened views place refused made old new had has → Cut disk was is hot opened refused made old new had has
   cut_of is hot opened views place refused made old new had has p = record { history = p.history; unprinted = p.unprinted; trail = p.trail; story = p.story }
@@ -327,46 +286,34 @@ module _ {D : Type 0} (disk : Ghosts D) (was : D) where
   -- the same as the session's step leaves it
   pub stepped : (mid is : D) (hot next : Hot) (opened given_open : ℕ) (views given : List (List ℕ)) (place : ℕ) (refused now : Bool) (made : List Line) (old half new : Option (List ℕ)) (had held has : ℕ) (line : Line) (e : Entry) (r : Result (Unit {0}) no_memory.NoMemory)
       → Progress disk was mid hot opened views place refused made old half had held
-      → line.client < 8 → e.client ≡ line.client → e.line ≡ line.line → e.call ≡ resolved (client_views views line.client) line.call
+      → e.client ≡ line.client → e.line ≡ line.line → ((h : List Entry) → AreViews views h → e.call ≡ resolved (views_of line.client h) line.call)
       → ((h : List Entry) → Story disk was mid hot opened h → Story disk was is next given_open (h ++ e ∷ []))
-      → PrintsUnless refused half new held has (Ok now) (entry_text (place + 1) e)
-      → OnOk r (given ≡ with_entry views e)
+      → PrintsUnless refused half new held has now (entry_text (place + 1) e)
+      → OnOk r ((h : List Entry) → AreViews views h → AreViews given (h ++ e ∷ []))
       → Stepped disk was is next given_open given (place + 1) now (made ++ line ∷ []) old new had has r
-  stepped mid is hot next opened given_open views given place refused now made old half new had held has line e (Ok x) p fits client number call story printed recorded =
-      subst (λ v. Progress disk was is next given_open v (place + 1) now (made ++ line ∷ []) old new had has) (sym recorded)
-      (made_one mid is hot next opened given_open views place refused now made old half new had held has line e p fits client number call story printed)
-  stepped mid is hot next opened given_open views given place refused now made old half new had held has line e (Err m) p fits client number call story printed recorded =
-      cut_of is next given_open (with_entry views e) (place + 1) now (made ++ line ∷ []) old new had has (made_one mid is hot next opened given_open views place refused now made old half new had held has line e p fits client number call story printed)
-
-  -- the same where the entry is not printed, for want of memory
-  pub made_unprinted : (mid is : D) (hot next : Hot) (opened given_open : ℕ) (views : List (List ℕ)) (place : ℕ) (refused : Bool) (made : List Line) (old half new : Option (List ℕ)) (had held has : ℕ) (line : Line) (e : Entry) (m : no_memory.NoMemory)
-      → Progress disk was mid hot opened views place refused made old half had held
-      → line.client < 8 → e.client ≡ line.client → e.line ≡ line.line → e.call ≡ resolved (client_views views line.client) line.call
-      → ((h : List Entry) → Story disk was mid hot opened h → Story disk was is next given_open (h ++ e ∷ []))
-      → PrintsUnless refused half new held has (Err m) (entry_text (place + 1) e)
-      → Cut disk was is next given_open refused (made ++ line ∷ []) old new had has
-  made_unprinted mid is hot next opened given_open views place true made old half new had held has line e m p fits client number call story printed = absurd printed
-  made_unprinted mid is hot next opened given_open views place false made old half new had held has line e m p fits client number call story printed =
-      let mine : IsEntryOf p.history line e = record { client = client; line_is = number; call_is = call ∙ ap (λ v. resolved v line.call) (p.views_are line.client fits) } in record {
+  stepped mid is hot next opened given_open views given place refused now made old half new had held has line e (Ok x) p client number call story printed recorded =
+      let one = one_more mid is hot next opened given_open views place refused now made old half new had held has line e p client number call story printed in record {
         history = p.history ++ e ∷ [];
-        unprinted = p.unprinted ++ entry_text (1 + length p.history) e;
-        trail = trail_more p.history p.unprinted false false made old half new had held has line e [] (p.unprinted ++ entry_text (1 + length p.history) e) p.trail mine refl printed.0 (λ _. printed.1 ∙ p.trail.sound refl) (λ e. absurd (true≢false (sym e)));
-        story = story p.history p.story;
+        unprinted = one.0;
+        trail = one.1;
+        all_printed = one.2;
+        story = one.3;
+        views_are = recorded p.history p.views_are;
+        place_is = ap (λ n. n + 1) p.place_is ∙ sym (length-append p.history (e ∷ []));
       }
-
-  none_given : (c : ℕ) → c < 8 → client_views (replicate 8 []) c ≡ views_of c []
-  none_given c below = get_or-replicate 8 c [] [] below
+  stepped mid is hot next opened given_open views given place refused now made old half new had held has line e (Err m) p client number call story printed recorded =
+      let one = one_more mid is hot next opened given_open views place refused now made old half new had held has line e p client number call story printed in
+      record { history = p.history ++ e ∷ []; unprinted = one.0; trail = one.1; story = one.3 }
 
   -- a run that has made no call
-  pub begun : (is : D) (hot : Hot) (opened : ℕ) (views : List (List ℕ)) (place : ℕ) (refused : Bool) (old : Option (List ℕ)) (had : ℕ) → Story disk was is hot opened [] → (views ≡ replicate 8 []) × (place ≡ 0) × (refused ≡ false) → Progress disk was is hot opened views place refused [] old old had had
+  pub begun : (is : D) (hot : Hot) (opened : ℕ) (views : List (List ℕ)) (place : ℕ) (refused : Bool) (old : Option (List ℕ)) (had : ℕ) → Story disk was is hot opened [] → AreViews views [] × (place ≡ 0) × (refused ≡ false) → Progress disk was is hot opened views place refused [] old old had had
   begun is hot opened views place refused old had story are = record {
     history = [];
     unprinted = [];
     trail = record { printed = []; in_order = tt; text_is = refl; wrote = appends_none old; sound = λ _. refl; rose = λ e. absurd (true≢false (sym e ∙ are.2)) };
     all_printed = λ _. refl;
     story = story;
-    views_are = λ c below. subst (λ v. client_views v c ≡ views_of c []) (sym are.0) (none_given c below);
-    views_len = ap length are.0;
+    views_are = are.0;
     place_is = are.1;
   }
 

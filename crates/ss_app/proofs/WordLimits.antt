@@ -12,7 +12,7 @@ use Rattle.ss_app.specs.declared.words.Command.TheVariants.{Init}
 use Rattle.ss_app.specs.declared.words.Key.{Key}
 use Rattle.ss_app.specs.declared.words.Key.TheVariants as key
 use Rattle.ss_app.specs.declared.words.Settings.{Settings}
-use Rattle.ss_app.specs.Script.{is_number}
+use Rattle.ss_script.specs.Fields.{is_number}
 use Rattle.ss_app.specs.Words.{CommandFits, alone, config_of, init_of, init_with, key_of, key_and_value, mode_of, no_settings, number_within, once, settings_from, with_value, with_word}
 
 -- the numbers that are set are within their limits

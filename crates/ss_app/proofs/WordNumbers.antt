@@ -4,9 +4,9 @@ use Rattle.std.specs.Prelude.{nat_lt, nat_le}
 use Rattle.std.specs.Result.{OkIff, result_ok}
 use Rattle.std.specs.Str.Parse.{ParsesUnsigned, digits_value}
 use Rattle.std.proofs.lemmas.Bool.{and_parts, ltb-true, leb-true}
-use Rattle.ss_app.specs.Script.{is_number}
+use Rattle.ss_script.specs.Fields.{is_number}
 use Rattle.ss_app.specs.Words.{number_within}
-use Rattle.ss_app.proofs.Numbers.{number_parses}
+use Rattle.ss_script.proofs.Decimals.{number_parses}
 
 -- a number that does not fit 64 bits is above any bound that does
 pub number_beyond : {E : Type 0} (least most : ℕ) (value : List ℕ) (r : Result ℕ E) → is_number value ≡ true → ParsesUnsigned 64 10 value r → result_ok r ≡ None → most < 2 ^ 64 → None ≡ number_within least most value

@@ -16,7 +16,7 @@ use Rattle.ss_app.specs.declared.words.Key.{Key}
 use Rattle.ss_app.specs.declared.words.Key.TheVariants as key
 use Rattle.ss_app.specs.declared.words.Settings.{Settings}
 use Rattle.ss_app.specs.Words.{command_of, init_with, key_of, key_and_value, no_settings, number_within, settings_from, with_value, with_word, words_of}
-use Rattle.ss_app.proofs.Numbers.{number_printed}
+use Rattle.ss_script.proofs.Decimals.{number_printed}
 
 number_read : (least most n : ℕ) → least ≤ n → n ≤ most → most < 2 ^ 64 → number_within least most (decimal n) ≡ Some n
 unfolding number_within

@@ -1,14 +1,12 @@
 -- The status of each ending of a run, and the line that tells why.
 use Rattle.std.specs.Prelude.{ℕ, List, [], ◌∷◌, ◌++◌, codes, Result, Ok, Err}
-use Rattle.std.specs.List.{flat_map}
-use Rattle.std.specs.Fmt.{decimal}
 use Rattle.ss_io.specs.declared.failed.Failed.{Failed}
 use Rattle.ss_io.specs.declared.whole.ReadAllFault.{ReadAllFault}
 use Rattle.ss_io.specs.declared.whole.ReadAllFault.TheVariants as input
-use Rattle.ss_app.specs.declared.script.ScriptFault.{ScriptFault}
-use Rattle.ss_app.specs.declared.script.ScriptFault.TheVariants as script
-use Rattle.ss_app.specs.declared.script.ScriptKind.{ScriptKind}
-use Rattle.ss_app.specs.declared.script.ScriptKind.TheVariants.{NotYet}
+use Rattle.ss_script.specs.declared.fault.ScriptFault.{ScriptFault}
+use Rattle.ss_script.specs.declared.fault.ScriptFault.TheVariants as script
+use Rattle.ss_script.specs.Fault.{kind_number}
+use Rattle.ss_script.specs.Text.{numbers_text}
 use Rattle.ss_app.specs.declared.ending.Ending.{Ending}
 use Rattle.ss_app.specs.declared.ending.Ending.TheVariants.{Done, Usage, NoMemory, ReadFault, DiskFault, NoStore, StoreExists, Damaged, BadScript, TooLong}
 use Rattle.ss_app.specs.declared.store.OpenFault.{OpenFault}
@@ -49,17 +47,6 @@ status_of TooLong = 13
 abbrev pub status_after : Result Ending Failed → ℕ
 status_after (Ok ending) = status_of ending
 status_after (Err failed) = 5
-
--- the number of each kind of fault in a script line
-abbrev pub kind_number : ScriptKind → ℕ
-kind_number NotYet = 9
-
-abbrev pub number_text : ℕ → List ℕ
-number_text n = codes " " ++ decimal n
-
--- each number behind a space
-abbrev pub numbers_text : List ℕ → List ℕ
-numbers_text numbers = flat_map number_text numbers
 
 -- the last line that is written
 abbrev pub line_of : Ending → List ℕ

@@ -5,14 +5,15 @@ pub mod Outcome
 pub mod Printing
 pub mod Progress
 pub mod Run
-pub mod Script
 pub mod Blocks
 pub mod Fresh
 pub mod Stands
 pub mod Room
 pub mod Puts
-pub mod Text
 pub mod Words
 pub use Rattle.ss_model.specs.State
 pub use Rattle.ss_model.specs.Lawful
 pub use Rattle.ss_model.specs.History
+pub use Rattle.ss_script.specs.Script
+pub use Rattle.ss_script.specs.Text
+pub use Rattle.ss_script.specs.Views

@@ -22,8 +22,8 @@ use Rattle.ss_app.specs.declared.TheConstants.{SCRIPT_BYTES}
 use Rattle.ss_app.specs.declared.help.TheConstants.{HELP, VERSION}
 use Rattle.ss_app.specs.declared.words.Command.{Command}
 use Rattle.ss_app.specs.declared.words.Command.TheVariants.{Init, Trace, Help, Version}
-use Rattle.ss_app.specs.declared.script.Line.{Line}
-use Rattle.ss_app.specs.declared.script.ScriptFault.TheVariants.{Bad}
+use Rattle.ss_script.specs.declared.line.Line.{Line}
+use Rattle.ss_script.specs.declared.fault.ScriptFault.TheVariants.{Bad}
 use Rattle.ss_app.specs.declared.ending.Ending.{Ending}
 use Rattle.ss_app.specs.declared.ending.Ending.TheVariants.{Done, Usage, NoMemory, ReadFault, DiskFault, NoStore, StoreExists, Damaged, BadScript, TooLong}
 use Rattle.ss_app.specs.Ending.{status_of, line_of}
@@ -31,9 +31,10 @@ use Rattle.ss_app.specs.Input.{IsTooLong}
 use Rattle.ss_app.specs.Opening.{HasNoStore, AreEmptyBeside}
 use Rattle.ss_app.specs.Room.{AreCounted, HasRoomsBy, AreRooms, AreStill, HavePlace, IsFulfilled, doubt_behind}
 use Rattle.ss_app.specs.Run.{InOrder}
-use Rattle.ss_app.specs.Script.{script_of}
+use Rattle.ss_script.specs.declared.TheConstants.{CLIENTS}
+use Rattle.ss_script.specs.Script.{script_of}
 use Rattle.ss_app.specs.Stands.{StandsFor, Serves}
-use Rattle.ss_app.specs.Text.{text}
+use Rattle.ss_script.specs.Text.{text}
 
 -- the status and the bytes that are written: these, or of a sink that failed 5 and a front of them
 abbrev pub Says : Option (List ℕ) → Option (List ℕ) → ℕ → ℕ → List ℕ → ℕ → ℕ → Type 0
@@ -42,7 +43,7 @@ Says old new before now bytes own status =
 
 -- the script is no longer than it may be, and asks for these lines
 abbrev pub AsksFor : List ℕ → List Line → Type 0
-AsksFor script lines = (length script ≤ SCRIPT_BYTES) × (script_of script ≡ Ok lines)
+AsksFor script lines = (length script ≤ SCRIPT_BYTES) × (script_of CLIENTS script ≡ Ok lines)
 
 -- the script asks for some lines
 abbrev pub Asks : Option (List ℕ) → Type 0
@@ -58,7 +59,7 @@ abbrev pub HasReason : {D : Type 0} → Ghosts D → D → D → Option (List �
 HasReason disk was is left behind before now h Done = IsAtEnd behind × (now ≡ before) × (IsTrue disk.told → HasStore (disk.files was 0)) × (lines : List Line) × InOrder [] lines h × ForSome left (λ script. AsksFor script lines)
 HasReason disk was is left behind before now h NoMemory = (lines : List Line) × InOrder [] lines h × ForSome left (λ script. (h ≡ []) ⊎ ((more : List Line) × AsksFor script (lines ++ more)))
 HasReason disk was is left behind before now h ReadFault = (h ≡ []) × Rose before now
-HasReason disk was is left behind before now h (BadScript line kind) = (h ≡ []) × ForSome left (λ script. (length script ≤ SCRIPT_BYTES) × (script_of script ≡ Err (Bad line kind)))
+HasReason disk was is left behind before now h (BadScript line kind) = (h ≡ []) × ForSome left (λ script. (length script ≤ SCRIPT_BYTES) × (script_of CLIENTS script ≡ Err (Bad line kind)))
 HasReason disk was is left behind before now h TooLong = (h ≡ []) × IsTooLong left
 HasReason disk was is left behind before now h DiskFault = (h ≡ []) × Asks left × Rose (disk.faults was) (disk.faults is)
 HasReason disk was is left behind before now h NoStore = (h ≡ []) × Asks left × (IsTrue disk.told → HasNoStore (disk.files was 0))
@@ -182,9 +183,9 @@ IsFree status = (status ≡ 3) ⊎ ((status ≡ 4) ⊎ (status ≡ 5))
 -- Statuses 9 and 13 come just where the script has a bad line or is too long, but for want of memory and faults of the
 -- ends: 3, 4 and 5.
 pub record RefusesScript (script : List ℕ) (status : ℕ) : Type 0 where
-  pub bad : status ≡ 9 → (length script ≤ SCRIPT_BYTES) × IsErr (script_of script)
+  pub bad : status ≡ 9 → (length script ≤ SCRIPT_BYTES) × IsErr (script_of CLIENTS script)
   pub long : status ≡ 13 → SCRIPT_BYTES < length script
-  pub from_bad : length script ≤ SCRIPT_BYTES → IsErr (script_of script) → (status ≡ 9) ⊎ IsFree status
+  pub from_bad : length script ≤ SCRIPT_BYTES → IsErr (script_of CLIENTS script) → (status ≡ 9) ⊎ IsFree status
   pub from_long : SCRIPT_BYTES < length script → (status ≡ 13) ⊎ IsFree status
 
 -- the same, or a fault of the disk

@@ -11,11 +11,12 @@ use Rattle.ss_model.specs.State.{State}
 use Rattle.ss_model.specs.Lawful.{After}
 use Rattle.ss_model.specs.History.{Legal, AfterAll}
 use Rattle.ss_model.specs.declared.call.Entry.{Entry}
-use Rattle.ss_app.specs.declared.script.Line.{Line}
+use Rattle.ss_script.specs.declared.line.Line.{Line}
 use Rattle.ss_app.specs.Room.{AreCounted, HasRoomsBy, AreRooms, AreStill, end_after, doubt_behind}
-use Rattle.ss_app.specs.Run.{InOrder, views_of, client_views}
+use Rattle.ss_app.specs.Run.{InOrder}
+use Rattle.ss_script.specs.Views.{AreViews}
 use Rattle.ss_app.specs.Stands.{StandsFor, Serves}
-use Rattle.ss_app.specs.Text.{text}
+use Rattle.ss_script.specs.Text.{text}
 
 -- the log's end behind all entries
 abbrev pub end_behind : State → ℕ → List Entry → ℕ
@@ -58,8 +59,7 @@ pub record Progress {D : Type 0} (disk : Ghosts D) (was now : D) (hot : Hot) (op
   pub trail : Trail history unprinted refused made old new had has
   pub all_printed : refused ≡ false → unprinted ≡ []
   pub story : Story disk was now hot opened history
-  pub views_are : (c : ℕ) → c < 8 → client_views views c ≡ views_of c history
-  pub views_len : length views ≡ 8
+  pub views_are : AreViews views history
   pub place_is : place ≡ length history
 
 -- a run that stops

@@ -20,7 +20,7 @@ use Rattle.ss_app.specs.declared.words.Command.TheVariants.{Init, Trace, Help, V
 use Rattle.ss_app.specs.declared.words.Key.{Key}
 use Rattle.ss_app.specs.declared.words.Key.TheVariants as key
 use Rattle.ss_app.specs.declared.words.Settings.{Settings}
-use Rattle.ss_app.specs.Script.{is_number}
+use Rattle.ss_script.specs.Fields.{is_number}
 
 -- the number of a value, where it is of the form and within these bounds
 unfoldable pub number_within : ℕ → ℕ → List ℕ → Option ℕ

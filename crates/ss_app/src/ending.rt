@@ -3,12 +3,12 @@
 ghost use Rattle.std.specs.Prelude.{◌≡◌, ◌++◌, codes};
 ghost use Rattle.ss_io.specs.Causes.{HasCause};
 ghost use Rattle.ss_io.specs.Written.{PutAppends};
-ghost use Rattle.ss_app.specs.Ending.{status_of, line_of, number_text, numbers_text};
+ghost use Rattle.ss_script.specs.Text.{numbers_text};
+ghost use Rattle.ss_app.specs.Ending.{status_of, line_of};
 
-use crate::script::{ScriptFault, ScriptKind};
 use crate::store::OpenFault;
-use itoa::Buffer;
 use ss_io::{Failed, ReadAllFault, Sink};
+use ss_script::{ScriptFault, ScriptKind, put_numbers};
 
 /// How a run ends, but for a sink that failed.
 #[derive(Clone, Copy, Debug, PartialEq, Eq)]
@@ -107,18 +107,18 @@ impl Ending {
     {
         match self {
             Ending::Done => Ok(()),
-            Ending::Usage { word } => put_numbers(sink, b"error: usage", &[word as u64]),
+            Ending::Usage { word } => put_numbers_line(sink, b"error: usage", &[word as u64]),
             Ending::NoMemory => sink.put(b"error: no memory\n"),
             Ending::ReadFault => sink.put(b"error: read fault\n"),
             Ending::DiskFault => sink.put(b"error: disk fault\n"),
             Ending::NoStore => sink.put(b"error: no store\n"),
             Ending::StoreExists => sink.put(b"error: store exists\n"),
             Ending::Damaged { file, at } => {
-                put_numbers(sink, b"error: damaged", &[u64::from(file), at])
+                put_numbers_line(sink, b"error: damaged", &[u64::from(file), at])
             }
             Ending::BadScript { line, kind } => {
                 let numbers = [u64::from(line), u64::from(kind.number())];
-                put_numbers(sink, b"error: script", &numbers)
+                put_numbers_line(sink, b"error: script", &numbers)
             }
             Ending::TooLong => sink.put(b"error: too long\n"),
         }
@@ -126,28 +126,10 @@ impl Ending {
 }
 
 // Writes a label, and then each number behind a space, as one line.
-fn put_numbers<K: Sink>(sink: &mut K, label: &[u8], numbers: &[u64]) -> Result<(), Failed>
+fn put_numbers_line<K: Sink>(sink: &mut K, label: &[u8], numbers: &[u64]) -> Result<(), Failed>
     ensures bytes { PutAppends (K.written sink.old) (K.written sink.new) result (label.now ++ (numbers_text numbers.now ++ codes "\n")) }
     ensures cause { HasCause (K.faults sink.old) (K.faults sink.new) result }
 {
-    if let Err(failed) = sink.put(label) {
-        return Err(failed);
-    }
-    for number in numbers {
-        if let Err(failed) = put_number(sink, *number) {
-            return Err(failed);
-        }
-    }
+    put_numbers(sink, label, numbers)?;
     sink.put(b"\n")
-}
-
-fn put_number<K: Sink>(sink: &mut K, number: u64) -> Result<(), Failed>
-    ensures bytes { PutAppends (K.written sink.old) (K.written sink.new) result (number_text number) }
-    ensures cause { HasCause (K.faults sink.old) (K.faults sink.new) result }
-{
-    let mut digits = Buffer::new();
-    if let Err(failed) = sink.put(b" ") {
-        return Err(failed);
-    }
-    sink.put(digits.format(number).as_bytes())
 }

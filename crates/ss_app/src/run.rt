@@ -8,7 +8,10 @@ ghost use Rattle.ss_records.specs.Record.{SettingsFit};
 ghost use Rattle.ss_model.specs.State.{State};
 ghost use Rattle.ss_model.specs.Lawful.{Lawful, After, is_disk_fault};
 ghost use Rattle.ss_io.specs.Causes.{Rose};
-ghost use Rattle.ss_app.specs.declared.script.Line.{Line};
+ghost use Rattle.ss_model.specs.declared.call.Entry.{Entry};
+ghost use Rattle.ss_script.specs.declared.line.Line.{Line};
+ghost use Rattle.ss_script.specs.Text.{entry_text};
+ghost use Rattle.ss_script.specs.Views.{AreViews, resolved, views_of};
 ghost use Rattle.ss_app.specs.declared.words.Command.TheVariants as command;
 ghost use Rattle.ss_app.specs.Ending.{status_of, status_after, line_of};
 ghost use Rattle.ss_app.specs.Opening.{HasNoStore};
@@ -16,24 +19,20 @@ ghost use Rattle.ss_app.specs.Outcome.{Says, Made, Traced, Inited, Ran, RefusesS
 ghost use Rattle.ss_app.specs.Printing.{PrintsUnless};
 ghost use Rattle.ss_app.specs.Progress.{Progress, Stepped, Story};
 ghost use Rattle.ss_app.specs.Room.{OfFullLog, HadRoom, doubt_after, end_after, reaches_disk};
-ghost use Rattle.ss_app.specs.Run.{client_views, resolved};
 ghost use Rattle.ss_app.specs.Stands.{Serves};
-ghost use Rattle.ss_app.specs.Text.{entry_text};
 ghost use Rattle.ss_app.specs.Words.{command_of};
 
 use crate::SCRIPT_BYTES;
 use crate::ending::Ending;
 use crate::help::{HELP, VERSION};
-use crate::script::{Line, read_script};
 use crate::store::{Store, init};
-use crate::text::{PrintFault, write_entry};
-use crate::views::Views;
 use crate::words::{Command, command_of};
 use ss_cid::NoMemory;
 use ss_disk::Disk;
 use ss_io::{Failed, Sink, Source, read_all};
 use ss_model::Entry;
 use ss_records::Config;
+use ss_script::{CLIENTS, Line, Lines, Views, read_script, write_entry};
 use std::alloc::Global;
 
 // The status of a run whose sink failed.
@@ -171,7 +170,7 @@ struct Session {
 
 impl Session {
     fn new(alloc: Global, store: Store) -> Result<Session, NoMemory>
-        ensures { IfOk result (λ s. (s.store.hot ≡ store.hot) × (s.store.views ≡ store.views) × (s.views ≡ replicate 8 []) × (s.place ≡ 0) × (s.refused ≡ false)) }
+        ensures { IfOk result (λ s. (s.store.hot ≡ store.hot) × (s.store.views ≡ store.views) × AreViews s.views [] × (s.place ≡ 0) × (s.refused ≡ false)) }
     {
         Ok(Session {
             store,
@@ -189,7 +188,6 @@ impl Session {
         disk: &mut D,
         line: Line,
     ) -> Result<(), NoMemory>
-        requires client { line.client < 8 }
         requires place { self.old.place < 2 ^ 63 }
         requires known { self.old.store.hot.log.end + 1 ≤ D.known disk.old 0 }
         ensures step { (was : _) (made : List Line) (old : Option (List ℕ)) (had : ℕ) → Progress D.Disk was disk.old self.old.store.hot self.old.store.views self.old.views self.old.place self.old.refused made old (K.written sink.old) had (K.faults sink.old) → Stepped D.Disk was disk.new self.new.store.hot self.new.store.views self.new.views self.new.place self.new.refused (made ++ line ∷ []) old (K.written sink.new) had (K.faults sink.new) result }
@@ -198,13 +196,8 @@ impl Session {
     {
         let entry = make_call(alloc, &mut self.store, &self.views, disk, line);
         self.place += 1;
-        match print(alloc, sink, self.refused, self.place, &entry) {
-            Ok(refused) => {
-                self.refused = refused;
-                self.views.record(&entry)
-            }
-            Err(NoMemory) => Err(NoMemory),
-        }
+        self.refused = print(alloc, sink, self.refused, self.place, &entry);
+        self.views.record(&entry)
     }
 }
 
@@ -216,11 +209,10 @@ fn make_call<D: Disk>(
     disk: &mut D,
     line: Line,
 ) -> Entry
-    requires client { line.client < 8 }
-    requires known { store.old.hot.log.end + 1 ≤ D.known disk.old 0 }
+    requires { store.old.hot.log.end + 1 ≤ D.known disk.old 0 }
     ensures client { result.client ≡ line.client }
     ensures line { result.line ≡ line.line }
-    ensures call { result.call ≡ resolved (client_views views.now line.client) line.call }
+    ensures call { (before : List Entry) → AreViews views.now before → result.call ≡ resolved (views_of line.client before) line.call }
     ensures lawful { (s : State) → IsTrue D.told → Serves D.Disk disk.old store.old.hot store.old.views s → Lawful s result.call result.answer }
     ensures after { (s : State) → IsTrue D.told → Serves D.Disk disk.old store.old.hot store.old.views s → Serves D.Disk disk.new store.new.hot store.new.views (After s result.call result.answer) }
     ensures end { (s : State) → IsTrue D.told → Serves D.Disk disk.old store.old.hot store.old.views s → store.new.hot.log.end ≡ end_after s store.old.hot.log.end result.call result.answer }
@@ -233,12 +225,13 @@ fn make_call<D: Disk>(
     ensures still { reaches_disk result.call result.answer ≡ false → disk.new ≡ disk.old }
     ensures touches { Touches D.Disk 0 disk.old disk.new }
 {
-    let Line { client, line, call } = line;
-    let call = views.resolve(client, call);
+    let client = line.client;
+    let number = line.line;
+    let call = views.resolve(line);
     let answer = store.call(alloc, disk, &call);
     Entry {
         client,
-        line,
+        line: number,
         call,
         answer,
     }
@@ -255,13 +248,12 @@ struct Calls {
 fn make_calls<K: Sink, D: Disk>(
     alloc: Global,
     store: Store,
-    lines: Vec<Line>,
+    lines: Lines,
     sink: &mut K,
     disk: &mut D,
 ) -> Calls
-    requires clients { All (λ line. line.client < 8) lines.items }
-    requires known { store.hot.log.end + 1 ≤ D.known disk.old 0 }
-    ensures { (was : _) → Story D.Disk was disk.old store.hot store.views [] → Made D.Disk was disk.new lines.items (K.written sink.old) (K.written sink.new) (K.faults sink.old) (K.faults sink.new) result.ending result.refused }
+    requires { store.hot.log.end + 1 ≤ D.known disk.old 0 }
+    ensures { (was : _) → Story D.Disk was disk.old store.hot store.views [] → Made D.Disk was disk.new lines (K.written sink.old) (K.written sink.new) (K.faults sink.old) (K.faults sink.new) result.ending result.refused }
 {
     let Ok(mut session) = Session::new(alloc, store) else {
         return Calls {
@@ -284,23 +276,10 @@ fn make_calls<K: Sink, D: Disk>(
 }
 
 // Prints an entry, unless the sink has refused a line before, and tells whether it has now.
-fn print<K: Sink>(
-    alloc: Global,
-    sink: &mut K,
-    refused: bool,
-    place: u64,
-    entry: &Entry,
-) -> Result<bool, NoMemory>
+fn print<K: Sink>(alloc: Global, sink: &mut K, refused: bool, place: u64, entry: &Entry) -> bool
     ensures { PrintsUnless refused (K.written sink.old) (K.written sink.new) (K.faults sink.old) (K.faults sink.new) result (entry_text place entry.now) }
 {
-    if refused {
-        return Ok(true);
-    }
-    match write_entry(alloc, sink, place, entry) {
-        Ok(()) => Ok(false),
-        Err(PrintFault::WriteFault) => Ok(true),
-        Err(PrintFault::NoMemory) => Err(NoMemory),
-    }
+    refused || write_entry(alloc, sink, place, entry).is_err()
 }
 
 // Reads the script, opens the store and makes the calls.
@@ -316,7 +295,7 @@ fn trace<S: Source, K: Sink, D: Disk>(
         Ok(text) => text,
         Err(fault) => return finish(sink, Ending::from(fault)),
     };
-    let lines = match read_script(alloc, text.as_slice()) {
+    let lines = match read_script(alloc, text.as_slice(), CLIENTS) {
         Ok(lines) => lines,
         Err(fault) => return finish(sink, Ending::from(fault)),
     };

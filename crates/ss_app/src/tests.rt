@@ -276,23 +276,20 @@ fn ends_that_fail(rt: HostRuntime) -> Result<(), Fail> {
             "at read {call}"
         );
     }
-    // Three lines are three puts, and then comes the flush.
+    // Each line is eleven puts, and after three lines comes the flush. A put that fails leaves a prefix of them.
     let script = "0 open\n1 open\n2 open\n";
-    let lines = [
-        "",
-        "1 0 1 open = opened 0\n",
-        "1 0 1 open = opened 0\n2 1 2 open = opened 1\n",
-        "1 0 1 open = opened 0\n2 1 2 open = opened 1\n3 2 3 open = opened 2\n",
-    ];
-    for (call, written) in lines.iter().enumerate() {
+    let lines = "1 0 1 open = opened 0\n2 1 2 open = opened 1\n3 2 3 open = opened 2\n";
+    let mut written = 0;
+    for call in 0..35 {
         let disk = made(rt.alloc(), "depth=0")?;
-        let ran = run_failing(rt.alloc(), "trace", script, disk, Failing::Put(call as u64))?;
-        assert_eq!(rt;
-            (ran.status, ran.written.as_str()),
-            (5, *written),
-            "at put {call}"
-        );
+        let ran = run_failing(rt.alloc(), "trace", script, disk, Failing::Put(call))?;
+        let status = if call < 34 { 5 } else { 0 };
+        assert_eq!(rt; ran.status, status, "at put {call}");
+        assert!(rt; lines.starts_with(ran.written.as_str()), "at put {call}");
+        assert!(rt; call == 0 || written < ran.written.len() || call > 32, "at put {call}");
+        written = ran.written.len();
     }
+    assert_eq!(rt; written, lines.len());
     Ok(())
 }
 

@@ -10,8 +10,8 @@ ghost use Rattle.ss_app.specs.Words.{CommandFits, command_of, words_of, alone, i
 #[cfg(test)]
 mod tests;
 
-use crate::script::is_number;
 use ss_records::{Config, Mode};
+use ss_script::is_number;
 
 /// How many epochs behind the head the edge of a compaction lies where no word says it.
 const DEFAULT_DEPTH: u64 = 3600;

@@ -1,21 +1,23 @@
 use Rattle.std.proofs.Common.{[], ◌∷◌, ◌++◌, ◌+◌, ◌≤◌, length, false, refl, sym, ap, arith, subst}
+use Rattle.std.specs.Prelude.{replicate}
 use Rattle.ss_hot.specs.Store.{Hot}
+use Rattle.ss_script.proofs.ClientViews.{no_views}
 use Rattle.ss_app.specs.Progress.{Story}
 use Rattle.ss_app.proofs.Steps.{begun, stopped, cut_of, moved_on, all_made, all_done}
 use Rattle.ss_app.proofs.run.make_calls.Goals as goal
 
 pub returns-in_default : goal.returns-in_default
 returns-in_default g c = λ was story.
-    stopped g.D.Disk was _ _ _ false [] _ _ _ _ _ _ (cut_of g.D.Disk was _ _ _ _ 0 false [] _ _ _ _ (begun g.D.Disk was _ _ _ _ 0 false _ _ story (refl, refl, refl))) refl
+    stopped g.D.Disk was _ _ _ false [] _ _ _ _ _ _ (cut_of g.D.Disk was _ _ _ _ 0 false [] _ _ _ _ (begun g.D.Disk was _ _ _ (replicate 8 []) 0 false _ _ story (no_views, refl, refl))) refl
 
 pub loop-line-init : goal.loop-line-init
 loop-line-init g c =
     let gives = c.into_iter-line-iterator.ensures.into_iter_gives in
     let made = c.in-Ok.ensures in (
-      omega (arith, made.3, ap length gives.0),
-      subst (λ (hot : Hot). hot.log.end + 1 ≤ g.D.Disk.known c.args.disk.now 0) (sym made.0) c.requires.known,
+      omega (arith, made.3, ap length gives),
+      subst (λ (hot : Hot). hot.log.end + 1 ≤ g.D.Disk.known c.args.disk.now 0) (sym made.0) c.requires,
       [],
-      sym gives.0,
+      sym gives,
       λ was story. begun g.D.Disk was _ _ _ _ _ _ _ _ (subst (λ (hot : Hot). Story g.D.Disk was c.args.disk.now hot c.in-Ok.session.store.views []) (sym made.0) (subst (λ n. Story g.D.Disk was c.args.disk.now c.args.store.hot n []) (sym made.1) story)) (made.2, made.3, made.4),
     )
 

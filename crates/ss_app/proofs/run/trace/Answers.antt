@@ -1,6 +1,5 @@
 use Rattle.std.proofs.Common.{refl, ◌∙◌, ap, Err}
 use Rattle.ss_app.proofs.Apart.{stands_apart}
-use Rattle.ss_app.proofs.Clients.{script_below}
 use Rattle.ss_app.proofs.Endings.{input_refused, script_refused, store_refused, asks_for, traced, traced_refused}
 use Rattle.ss_app.proofs.Steps.{begun_story, at_most}
 use Rattle.ss_app.proofs.Still.{same_disk}
@@ -24,9 +23,6 @@ returns-in-Err-open g c =
     let said = rw c.from-in-Err-open.ensures at c.finish-in-Err-open.ensures in
     let asks = asks_for _ _ c.as_slice.result.now _ took c.in-Ok.ensures.all.1 (at_most _ _ SCRIPT_BYTES c.as_slice.ensures.len c.in-Ok.ensures.within) c.in-Ok-read_script.ensures in
     store_refused g.D.Disk _ _ _ _ _ _ _ _ _ _ _ c.in-Err-open.fault c.«open».ensures.goes (_, asks) stands_apart (λ is. c.«open».ensures.no_store (c.in-Err-open.is ∙ ap Err is)) (λ file at is. c.«open».ensures.damaged file at (c.in-Err-open.is ∙ ap Err is)) (λ is. c.«open».ensures.opens (c.in-Err-open.is ∙ ap Err is)) (λ is. c.«open».ensures.fault (c.in-Err-open.is ∙ ap Err is)) said
-
-pub make_calls-calls-requires-clause-clients : goal.make_calls-calls-requires-clause-clients
-make_calls-calls-requires-clause-clients g c = script_below c.as_slice.result.now _ c.in-Ok-read_script.ensures
 
 pub returns-then-calls : goal.returns-then-calls
 returns-then-calls g c =

@@ -1,5 +1,5 @@
 use Rattle.std.proofs.Common.{sym, ap, ◌∙◌, arith}
-use Rattle.ss_app.specs.Script.{is_number}
+use Rattle.ss_script.specs.Fields.{is_number}
 use Rattle.ss_app.proofs.WordNumbers.{number_beyond}
 use Rattle.ss_app.proofs.words.decimal.Goals as goal
 

@@ -1,9 +1,0 @@
-use Rattle.std.proofs.Common.{◌≡◌, ◌++◌, take}
-use Rattle.std.specs.Io.KnownBytes.{Appends}
-use Rattle.ss_app.specs.Ending.{numbers_text}
-use Rattle.ss_app.proofs.ending.put_numbers.Given as goal
-
-abbrev pub invariant-loop-number : goal.invariant-loop-number
-invariant-loop-number g l =
-    Appends (g.K.Sink.written l.fn.sink) (g.K.Sink.written l.sink) (l.label ++ numbers_text (take l.number-index l.numbers))
-    × (g.K.Sink.faults l.sink ≡ g.K.Sink.faults l.fn.sink)

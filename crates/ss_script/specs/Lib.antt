@@ -1,0 +1,8 @@
+pub mod Asked
+pub mod Fault
+pub mod Fields
+pub mod Script
+pub mod Text
+pub mod Views
+pub use Rattle.ss_io.specs.Causes
+pub use Rattle.ss_io.specs.Written

@@ -1,0 +1,93 @@
+-- The script of `trace`. The text is lines, each ended by LF; the last LF may be missing. A line that is empty or begins
+-- with `#` holds no call but is counted, from 1. Any other is a client, and a call of its with what it names:
+--
+--     C open    C put K CID DATA CID DATA ..    C get K CID
+--
+-- C is the client, a digit, and K its view from its `open` line number K, counted from 0. A put has any number of pairs, none
+-- included. Fields are judged from left to right, and a bad line is reported for the first that is at fault.
+use Rattle.std.specs.Prelude.{ℕ, ◌+◌, ◌==◌, ◌||◌, Bool, List, [], ◌∷◌, ◌++◌, if◌then◌else◌, length, slice_index, codes, Option, Some, None, Result, Ok, Err}
+use Rattle.std.specs.List.{slice_split}
+use Rattle.std.specs.Option.{option_to_list}
+use Rattle.std.specs.Str.{bytes_eq}
+use Rattle.ss_cid.specs.Steps.{◌>>=◌}
+use Rattle.ss_script.specs.declared.call.ScriptCall.{ScriptCall}
+use Rattle.ss_script.specs.declared.call.ScriptCall.TheVariants as call
+use Rattle.ss_script.specs.declared.line.Line.{Line}
+use Rattle.ss_script.specs.declared.fault.ScriptKind.{ScriptKind}
+use Rattle.ss_script.specs.declared.fault.ScriptKind.TheVariants.{NotYet}
+use Rattle.ss_script.specs.declared.fault.ScriptFault.{ScriptFault}
+use Rattle.ss_script.specs.declared.fault.ScriptFault.TheVariants.{Bad}
+use Rattle.ss_script.specs.Fields.{fields_of, first_by, ended, client_of, number_of, cid_of, data_of}
+
+abbrev pub lines_of : List ℕ → List (List ℕ)
+lines_of text = slice_split (λ b. b == 10) text
+
+-- the line holds no call
+abbrev pub is_blank : List ℕ → Bool
+is_blank line = (length line == 0) || (slice_index line 0 == 35)
+
+-- the pairs of a put
+abbrev pub pairs_of : List (List ℕ) → Result (List (List ℕ × List ℕ)) ScriptKind
+pairs_of [] = Ok []
+pairs_of (cid ∷ []) = do
+  c ← cid_of cid
+  Err NotYet
+pairs_of (cid ∷ block ∷ fields) = do
+  c ← cid_of cid
+  b ← data_of block
+  pairs ← pairs_of fields
+  Ok ((c, b) ∷ pairs)
+
+abbrev pub open_of : List (List ℕ) → Result ScriptCall ScriptKind
+open_of fields = do
+  end ← ended fields
+  Ok call.OpenView
+
+abbrev pub put_of : List (List ℕ) → Result ScriptCall ScriptKind
+put_of fields = do
+  view ← first_by number_of fields
+  pairs ← pairs_of view.1
+  Ok (call.Put view.0 pairs)
+
+abbrev pub get_of : List (List ℕ) → Result ScriptCall ScriptKind
+get_of fields = do
+  view ← first_by number_of fields
+  cid ← first_by cid_of view.1
+  end ← ended cid.1
+  Ok (call.Get view.0 cid.0)
+
+-- the call of a name and the fields after it
+abbrev pub named_call : List ℕ → List (List ℕ) → Result ScriptCall ScriptKind
+named_call name fields =
+    if bytes_eq name (codes "open") then open_of fields
+    else if bytes_eq name (codes "put") then put_of fields
+    else if bytes_eq name (codes "get") then get_of fields
+    else Err NotYet
+
+-- the client, one of so many, and the call of a line's fields
+abbrev pub call_of : ℕ → List (List ℕ) → Result (ℕ × ScriptCall) ScriptKind
+call_of clients fields = do
+  client ← first_by (client_of clients) fields
+  name ← first_by Ok client.1
+  call ← named_call name.0 name.1
+  Ok (client.0, call)
+
+abbrev pub line_with : ℕ → Result (ℕ × ScriptCall) ScriptKind → Result (Option Line) ScriptFault
+line_with n (Ok c) = Ok (Some (record { client = c.0; line = n; call = c.1 }))
+line_with n (Err kind) = Err (Bad n kind)
+
+-- what the line of this number asks for, if it holds a call
+unfoldable pub line_of : ℕ → ℕ → List ℕ → Result (Option Line) ScriptFault
+line_of clients n line = if is_blank line then Ok None else line_with n (call_of clients (fields_of line))
+
+-- the calls of lines of which the first has this number, or the first bad line
+abbrev pub script_from : ℕ → ℕ → List (List ℕ) → Result (List Line) ScriptFault
+script_from clients n [] = Ok []
+script_from clients n (line ∷ lines) = do
+  first ← line_of clients n line
+  more ← script_from clients (n + 1) lines
+  Ok (option_to_list first ++ more)
+
+-- the calls of a script of so many clients, or the first bad line
+abbrev pub script_of : ℕ → List ℕ → Result (List Line) ScriptFault
+script_of clients text = script_from clients 1 (lines_of text)

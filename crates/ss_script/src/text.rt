@@ -1,0 +1,207 @@
+//! The printed text of an entry, written to a sink part by part and without memory.
+
+ghost use Rattle.std.specs.Prelude.{◌≡◌, ◌≤◌, ◌++◌, IfErr, codes, length};
+ghost use Rattle.hex.specs.Hex.{encode_lower};
+ghost use Rattle.ss_io.specs.Causes.{HasCause};
+ghost use Rattle.ss_io.specs.Written.{PutAppends};
+ghost use Rattle.ss_script.specs.Text.{bytes_text, view_text, client_text, call_text, view_reply_text, item_fault_number, put_reply_text, get_reply_text, answer_text, entry_text};
+
+use crate::numbers::{put_decimal, put_number, put_numbers};
+use ss_cbor::CborKind;
+use ss_io::{Failed, Sink};
+use ss_model::{Answer, COMPACTOR, Call, Entry, GetReply, NO_VIEW, PutReply, ViewReply};
+use std::alloc::Global;
+
+// The bytes of a block whose digits are made and written at once.
+const PIECE_BYTES: usize = 512;
+
+/// Why an entry was not written whole.
+#[derive(Clone, Copy, Debug, PartialEq, Eq)]
+pub enum PrintFault {
+    /// The sink failed.
+    WriteFault,
+    /// Out of memory.
+    NoMemory,
+}
+
+/// Writes the line of an entry at this place of its history, counted from 1. It takes no memory, so it never answers `NoMemory`.
+pub fn write_entry<K: Sink>(
+    _alloc: Global,
+    sink: &mut K,
+    place: u64,
+    entry: &Entry,
+) -> Result<(), PrintFault>
+    ensures bytes { PutAppends (K.written sink.old) (K.written sink.new) result (entry_text place entry.now) }
+    ensures cause { HasCause (K.faults sink.old) (K.faults sink.new) result }
+    ensures fault { IfErr result (λ fault. fault ≡ PrintFault.WriteFault) }
+{
+    match put_entry(sink, place, entry) {
+        Ok(()) => Ok(()),
+        Err(Failed) => Err(PrintFault::WriteFault),
+    }
+}
+
+fn put_entry<K: Sink>(sink: &mut K, place: u64, entry: &Entry) -> Result<(), Failed>
+    ensures bytes { PutAppends (K.written sink.old) (K.written sink.new) result (entry_text place entry.now) }
+    ensures cause { HasCause (K.faults sink.old) (K.faults sink.new) result }
+{
+    put_decimal(sink, place)?;
+    put_client(sink, entry.client)?;
+    put_number(sink, u64::from(entry.line))?;
+    put_call(sink, &entry.call)?;
+    sink.put(b" = ")?;
+    put_answer(sink, &entry.answer)?;
+    sink.put(b"\n")
+}
+
+fn put_client<K: Sink>(sink: &mut K, client: u8) -> Result<(), Failed>
+    ensures bytes { PutAppends (K.written sink.old) (K.written sink.new) result (client_text client) }
+    ensures cause { HasCause (K.faults sink.old) (K.faults sink.new) result }
+{
+    if client == COMPACTOR {
+        sink.put(b" c")
+    } else {
+        put_number(sink, u64::from(client))
+    }
+}
+
+fn put_view<K: Sink>(sink: &mut K, view: u32) -> Result<(), Failed>
+    ensures bytes { PutAppends (K.written sink.old) (K.written sink.new) result (view_text view) }
+    ensures cause { HasCause (K.faults sink.old) (K.faults sink.new) result }
+{
+    if view == NO_VIEW {
+        sink.put(b" -")
+    } else {
+        put_number(sink, u64::from(view))
+    }
+}
+
+fn put_call<K: Sink>(sink: &mut K, call: &Call) -> Result<(), Failed>
+    ensures bytes { PutAppends (K.written sink.old) (K.written sink.new) result (call_text call.now) }
+    ensures cause { HasCause (K.faults sink.old) (K.faults sink.new) result }
+{
+    match call {
+        Call::OpenView => sink.put(b" open"),
+        Call::Put { view, .. } => put_name_and_view(sink, b" put", *view),
+        Call::Get { view, .. } => put_name_and_view(sink, b" get", *view),
+    }
+}
+
+fn put_name_and_view<K: Sink>(sink: &mut K, name: &[u8], view: u32) -> Result<(), Failed>
+    ensures bytes { PutAppends (K.written sink.old) (K.written sink.new) result (name.now ++ view_text view) }
+    ensures cause { HasCause (K.faults sink.old) (K.faults sink.new) result }
+{
+    sink.put(name)?;
+    put_view(sink, view)
+}
+
+fn put_answer<K: Sink>(sink: &mut K, answer: &Answer) -> Result<(), Failed>
+    ensures bytes { PutAppends (K.written sink.old) (K.written sink.new) result (answer_text answer.now) }
+    ensures cause { HasCause (K.faults sink.old) (K.faults sink.new) result }
+{
+    match answer {
+        Answer::View(reply) => put_view_reply(sink, *reply),
+        Answer::Put(reply) => put_put_reply(sink, *reply),
+        Answer::Get(reply) => put_get_reply(sink, reply),
+    }
+}
+
+fn put_view_reply<K: Sink>(sink: &mut K, reply: ViewReply) -> Result<(), Failed>
+    ensures bytes { PutAppends (K.written sink.old) (K.written sink.new) result (view_reply_text reply) }
+    ensures cause { HasCause (K.faults sink.old) (K.faults sink.new) result }
+{
+    match reply {
+        ViewReply::Opened(view) => put_numbers(sink, b"opened", &[u64::from(view)]),
+        ViewReply::TooManyViews => sink.put(b"too-many-views"),
+    }
+}
+
+fn put_put_reply<K: Sink>(sink: &mut K, reply: PutReply) -> Result<(), Failed>
+    ensures bytes { PutAppends (K.written sink.old) (K.written sink.new) result (put_reply_text reply) }
+    ensures cause { HasCause (K.faults sink.old) (K.faults sink.new) result }
+{
+    match reply {
+        PutReply::BadView => sink.put(b"bad-view"),
+        PutReply::TooMany { n } => put_numbers(sink, b"too-many", &[u64::from(n)]),
+        PutReply::TooBig { bytes } => put_numbers(sink, b"too-big", &[bytes]),
+        PutReply::TooLarge { i } => put_numbers(sink, b"too-large", &[u64::from(i)]),
+        PutReply::UnknownHash { i } => put_numbers(sink, b"unknown-hash", &[u64::from(i)]),
+        PutReply::Malformed { i, kind, at } => {
+            let kind = item_fault_number(kind);
+            put_numbers(sink, b"malformed", &[u64::from(i), kind, u64::from(at)])
+        }
+        PutReply::Mismatch { i } => put_numbers(sink, b"mismatch", &[u64::from(i)]),
+        PutReply::NoMemory => sink.put(b"no-memory"),
+        PutReply::TableFull { rows } => put_numbers(sink, b"table-full", &[rows]),
+        PutReply::LogFull { file, need, room } => {
+            put_numbers(sink, b"log-full", &[u64::from(file), need, room])
+        }
+        PutReply::DiskFault => sink.put(b"fault"),
+        PutReply::Stored { new } => put_numbers(sink, b"stored", &[u64::from(new)]),
+    }
+}
+
+fn item_fault_number(kind: CborKind) -> u64
+    ensures { result ≡ item_fault_number kind }
+{
+    kind as u64
+}
+
+fn put_get_reply<K: Sink>(sink: &mut K, reply: &GetReply) -> Result<(), Failed>
+    ensures bytes { PutAppends (K.written sink.old) (K.written sink.new) result (get_reply_text reply.now) }
+    ensures cause { HasCause (K.faults sink.old) (K.faults sink.new) result }
+{
+    match reply {
+        GetReply::BadView => sink.put(b"bad-view"),
+        GetReply::NotFound => sink.put(b"not-found"),
+        GetReply::NoMemory => sink.put(b"no-memory"),
+        GetReply::DiskFault => sink.put(b"fault"),
+        GetReply::Found(block) => put_found(sink, block.as_slice()),
+    }
+}
+
+fn put_found<K: Sink>(sink: &mut K, bytes: &[u8]) -> Result<(), Failed>
+    ensures bytes { PutAppends (K.written sink.old) (K.written sink.new) result (codes "found " ++ bytes_text bytes.now) }
+    ensures cause { HasCause (K.faults sink.old) (K.faults sink.new) result }
+{
+    sink.put(b"found ")?;
+    put_bytes(sink, bytes)
+}
+
+fn put_bytes<K: Sink>(sink: &mut K, bytes: &[u8]) -> Result<(), Failed>
+    ensures bytes { PutAppends (K.written sink.old) (K.written sink.new) result (bytes_text bytes.now) }
+    ensures cause { HasCause (K.faults sink.old) (K.faults sink.new) result }
+{
+    if bytes.is_empty() {
+        sink.put(b"-")
+    } else {
+        put_digits(sink, bytes)
+    }
+}
+
+// Writes the digits of bytes, piece by piece.
+fn put_digits<K: Sink>(sink: &mut K, bytes: &[u8]) -> Result<(), Failed>
+    ensures bytes { PutAppends (K.written sink.old) (K.written sink.new) result (encode_lower bytes.now) }
+    ensures cause { HasCause (K.faults sink.old) (K.faults sink.new) result }
+{
+    let mut rest = bytes;
+    while !rest.is_empty() {
+        let (piece, more) = rest.split_at(rest.len().min(PIECE_BYTES));
+        put_piece(sink, piece)?;
+        rest = more;
+    }
+    Ok(())
+}
+
+// Writes the digits of a piece.
+fn put_piece<K: Sink>(sink: &mut K, piece: &[u8]) -> Result<(), Failed>
+    requires { length piece.now ≤ PIECE_BYTES }
+    ensures bytes { PutAppends (K.written sink.old) (K.written sink.new) result (encode_lower piece.now) }
+    ensures cause { HasCause (K.faults sink.old) (K.faults sink.new) result }
+{
+    let mut room = [0u8; 2 * PIECE_BYTES];
+    let digits = &mut room[..2 * piece.len()];
+    let fits = hex::encode_to_slice(piece, digits).is_ok();
+    prove!(fits);
+    sink.put(digits)
+}

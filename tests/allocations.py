@@ -5,51 +5,44 @@ import re
 from checking import check, expect, expect_that
 from examples import AFTER, read
 from interposed import run
-from stores import INIT, Ended, Store, answers, copied, new_folder, new_store
+from stores import EXISTS, INIT, MADE, Store, answers, copied, new_folder, new_store, script_of
 
-# The statuses that memory can make a run end with, and their lines.
+# The statuses that a lack of memory can end a run with, and their lines. A file whose path finds no memory is not opened.
 LINES = {3: b"error: no memory", 6: b"error: disk fault"}
+REASONS = {6: rb"splitstore: [a-z.-]+: open: out of memory\n"}
 
 
-def allocations(trial, folder, *words, script=""):
-    """How many allocations a run makes."""
-    _, made = run(trial, folder, *words, script=script)
-    return made[-1].result
+def without(trial, number, folder, *arguments, script=""):
+    """How a run ends whose allocation of this number fails."""
+    return run(trial, folder, *arguments, script=script, rules=[("malloc", "memory", number, errno.ENOMEM)])[0]
 
 
-def see_end(what, ended, usual):
-    """Sees that a run without some memory ends with a status and its line. A file whose path finds no memory is not opened."""
-    if ended.status == 6:
-        expect_that(re.fullmatch(rb"splitstore: [a-z.-]+: open: out of memory\n", ended.err), f"{what}: standard error is {ended.err!r}")
-    else:
-        expect(f"{what}: standard error", ended.err, b"")
-    expect_that(ended.status in (usual.status, *LINES), f"{what}: its status is {ended.status}, and it ends {ended.out[-80:]!r}")
+def allocations(trial, folder, *arguments, script=""):
+    """The numbers of the allocations of a run."""
+    _, made = run(trial, folder, *arguments, script=script)
+    return range(1, made[-1].result + 1)
+
+
+def expect_end(what, ended, usual):
+    """Expects that a run ended as usual, or with a status of its lack of memory, its line and its reason."""
+    expect_that(ended.status in (usual, *LINES), f"{what}: its status is {ended.status}, and it ends {ended.out[-80:]!r}")
     if ended.status in LINES:
         expect(f"{what}: its last line", ended.out.splitlines()[-1], LINES[ended.status])
+    reasons = REASONS.get(ended.status, b"")
+    expect_that(re.fullmatch(reasons, ended.err), f"{what}: standard error is {ended.err!r}, which does not match {reasons!r}")
 
 
-def stored_lines(script, out):
-    """The lines of a script whose put was answered `stored`."""
+def expect_stored(what, store, script, out):
+    """Expects that the blocks of each put of the script that was answered `stored` are found, with the data as it stands there."""
     lines = script.splitlines()
-    return [lines[int(line.split()[2]) - 1] for line in out.decode("ascii").splitlines() if " = stored" in line]
-
-
-def pairs_of(line):
-    """The CIDs and the data of the line of a put, as they stand there."""
-    fields = line.split(" ")[3:]
-    return list(zip(fields[::2], fields[1::2]))
-
-
-def see_stored(store, what, lines):
-    """Sees that the blocks of these puts are found."""
-    pairs = [pair for line in lines for pair in pairs_of(line)]
-    script = "0 open\n" + "".join(f"0 get 0 {cid}\n" for cid, _ in pairs)
+    stored = [lines[int(line.split()[2]) - 1] for line in out.decode("ascii").splitlines() if " = stored" in line]
+    pairs = [pair for line in stored for pair in zip(line.split()[3::2], line.split()[4::2])]
+    ended = store.trace(script_of(*(f"0 get 0 {cid}\n" for cid, _ in pairs)))
     wanted = ["opened 0", *(f"found {data}" for _, data in pairs)]
-    ended = store.trace(script)
     expect(f"{what}: gets of what was stored", (ended.status, answers(ended.out)), (0, wanted))
 
 
-@check("each allocation of the examples failing in turn: the run ends with a status and a line, and what was stored is found", is_long=True)
+@check("each allocation of the examples failing in turn: the run ends with a status and its line, and what was stored is found", True)
 def examples_without_memory(trial):
     count = 0
     for name in ("first", "twice", "links"):
@@ -57,26 +50,26 @@ def examples_without_memory(trial):
         for each in AFTER.get(name, []):
             store.trace(read(f"examples/{each}.script"))
         script = read(f"examples/{name}.script")
-        usual = copied(trial, store).trace(script)
-        for number in range(1, allocations(trial, copied(trial, store).folder, "trace", script=script) + 1):
-            copy = copied(trial, store)
-            what = f"{name} whose allocation {number} fails"
-            ended, _ = run(trial, copy.folder, "trace", script=script, rules=[("malloc", "memory", number, errno.ENOMEM)])
-            see_end(what, ended, usual)
-            see_stored(copy, what, stored_lines(script, ended.out))
-            expect(f"{what}: the example afterwards", copy.trace(script).status, 0)
+        usual = copied(trial, store).trace(script).status
+        for number in allocations(trial, copied(trial, store).folder, "trace", script=script):
+            copy, what = copied(trial, store), f"the example {name} without its allocation {number}"
+            ended = without(trial, number, copy.folder, "trace", script=script)
+            expect_end(what, ended, usual)
+            expect_stored(what, copy, script, ended.out)
+            expect(f"the status of the example after {what}", copy.trace(script).status, usual)
             count += 1
     return f"{count} runs"
 
 
-@check("each allocation of init failing in turn: it makes the store or ends with status 3 or 6, and can be run again", is_long=True)
+@check("each allocation of init failing in turn: it makes the store or ends with a status and its line, and can be run again", True)
 def init_without_memory(trial):
-    count = allocations(trial, new_folder(trial, "calm"), *INIT)
-    for number in range(1, count + 1):
+    numbers = allocations(trial, new_folder(trial, "calm"), *INIT)
+    for number in numbers:
         store = Store(trial.program, new_folder(trial, str(number)))
-        ended, _ = run(trial, store.folder, *INIT, rules=[("malloc", "memory", number, errno.ENOMEM)])
-        see_end(f"init whose allocation {number} fails", ended, Ended(0, b"store made\n", b""))
+        what = f"init without its allocation {number}"
+        expect_end(what, without(trial, number, store.folder, *INIT), 0)
         again = trial.program.run(store.folder, *INIT)
-        expect_that(again in (Ended(0, b"store made\n", b""), Ended(7, b"error: store exists\n", b"")), f"a second init ended with {again}")
-        expect("a run on the store that was made", store.trace(read("examples/first.script")).out, read("examples/first.out").encode("ascii"))
-    return f"{count} runs"
+        expect_that(again in (MADE, EXISTS), f"after {what} a second one ended with {again}")
+        ended = store.trace(read("examples/first.script"))
+        expect(f"the first example after {what}", ended.out, read("examples/first.out").encode("ascii"))
+    return f"{len(numbers)} runs"

@@ -7,7 +7,7 @@ import time
 import traceback
 from typing import Callable
 
-# How often the moment that a check is for may be missed before it is given up for this run.
+# How often a check may miss its moment before it is given up for this run.
 TRIES = 20
 
 # The most characters of a value that a failure shows.
@@ -23,22 +23,22 @@ class Skipped(Exception):
 
 
 class Missed(Exception):
-    """The moment that the check is for did not come; the text says what was missed. It is no failure."""
+    """The moment that the check waits for did not come; the text says which. This is no failure."""
 
 
 @dataclasses.dataclass(frozen=True)
 class Check:
-    """A check: `shows` says what holds where it passes."""
+    """A check. `shows` says what holds if it passes."""
     shows: str
-    run: Callable
-    is_long: bool
+    function: Callable
+    is_long: bool = False
 
 
 CHECKS = []
 
 
 def check(shows, is_long=False):
-    """Registers a function as a check. It is given a `Trial`, raises where something is not as it should be, and may return a note."""
+    """Registers a function as a check. It takes a `Trial`, raises if something is wrong, and may return a note."""
     def register(function):
         CHECKS.append(Check(shows, function, is_long))
         return function
@@ -46,38 +46,36 @@ def check(shows, is_long=False):
 
 
 def cases(table):
-    """Registers a function as one check for each entry of a table, from what the check shows to the arguments behind the trial."""
+    """Registers a function as one check for each entry of a table, which has the arguments after the trial by what they show."""
     def register(function):
         for shows, arguments in table.items():
-            CHECKS.append(Check(shows, lambda trial, given=arguments: function(trial, *given), False))
+            CHECKS.append(Check(shows, lambda trial, given=arguments: function(trial, *given)))
         return function
     return register
 
 
 def expect(what, got, wanted):
-    """Fails where a value is not the one that is wanted."""
+    """Fails if a value is not the one that is wanted."""
     if got != wanted:
         raise Failed(f"{what}\n    expected {shown(wanted, got)}\n    came     {shown(got, wanted)}")
 
 
 def expect_that(holds, what):
-    """Fails where something does not hold."""
+    """Fails if something does not hold."""
     if not holds:
         raise Failed(what)
 
 
-def shown(value, other=None):
-    """A value as a failure shows it: of a long one the part around the first difference from the other."""
+def shown(value, other):
+    """A value as a failure shows it. Of a long one this is the part around its first difference from the other."""
     if not isinstance(value, (bytes, str)):
-        text = repr(value)
-        return text if len(text) <= SHOWN else text[:SHOWN] + ".."
-    start = 0
-    if len(value) > SHOWN and isinstance(other, type(value)):
-        same = next((at for at, (one, two) in enumerate(zip(value, other)) if one != two), min(len(value), len(other)))
-        start = max(0, same - SHOWN // 2)
-    part = repr(value[start:start + SHOWN])
-    before = f"(from {start} on) " if start else ""
-    return f"{before}{part}{'..' if start + SHOWN < len(value) else ''} ({len(value)} in all)"
+        value, other = repr(value), repr(other)
+    if len(value) <= SHOWN or not isinstance(other, type(value)):
+        return repr(value[:SHOWN])
+    length = min(len(value), len(other))
+    first = next((at for at in range(length) if value[at] != other[at]), length)
+    start = max(0, first - SHOWN // 2)
+    return f"{value[start:start + SHOWN]!r} ({len(value)} in all, from {start} on)"
 
 
 class Trial:
@@ -89,37 +87,36 @@ class Trial:
         self.random = source
         self.is_long = is_long
 
-    def until_caught(self, attempt):
-        """Makes an attempt anew as long as it misses its moment, and gives it up after some tries."""
+    @staticmethod
+    def until_caught(attempt):
+        """Makes an attempt again as long as it misses its moment, and gives it up after some tries."""
         for _ in range(TRIES):
             try:
                 return attempt()
             except Missed as why:
-                print(f"     missed: {why}; once more", flush=True)
+                print(f"     missed: {why}; trying again", flush=True)
         raise Missed(f"nothing was caught in {TRIES} tries")
 
 
 class Tally:
-    """Counts the results of checks, and prints a line for each."""
+    """Makes checks, prints a line for each, and counts their results."""
 
     def __init__(self):
         self.passed = 0
         self.failed = 0
 
-    def run(self, each, make_trial):
+    def make(self, each, trial_in):
         """Makes one check in a new folder, which is removed afterwards."""
         folder = tempfile.mkdtemp(prefix="splitstore-tests-")
         began = time.monotonic()
         try:
-            note = each.run(make_trial(folder, each))
+            note = each.function(trial_in(folder))
             self.passed += 1
             print(f"ok   {each.shows} ({time.monotonic() - began:.1f} s{f'; {note}' if note else ''})", flush=True)
-        except Skipped as why:
-            print(f"skip {each.shows}: {why}", flush=True)
-        except Missed as why:
+        except (Skipped, Missed) as why:
             print(f"skip {each.shows}: {why}", flush=True)
         except Failed as why:
-            self.fail(each, str(why))
+            self.fail(each, why)
         except Exception:
             self.fail(each, traceback.format_exc())
         finally:
@@ -131,5 +128,5 @@ class Tally:
 
 
 def seeded(seed, each):
-    """The source of random numbers of a check: the same for a seed, whichever other checks are made."""
+    """The source of random numbers of a check. It depends on the seed and not on which other checks are made."""
     return random.Random(f"{seed} {each.shows}")

@@ -1,7 +1,7 @@
-"""The examples and the documents' sessions, compared byte by byte with what the program prints.
+"""The examples and the sessions in the documents, compared byte by byte with what the program prints.
 
-A session is an indented block of a document that begins with `$`: a line with `$` is typed into `sh`, from the top of the
-repository, and the lines below it are all that is printed, on standard output and standard error.
+A session is an indented block that begins with `$`. A line with `$` is typed into `sh`, at the top of the repository; the
+lines below it are all that it prints, on standard output and on standard error.
 """
 import glob
 import os
@@ -14,14 +14,12 @@ from stores import SECONDS, Ended, new_store
 
 TOP = os.path.dirname(os.path.dirname(os.path.abspath(__file__)))
 BUILT = os.path.join("crates", "splitstore", "out", "splitstore")
-EXAMPLES = os.path.join(TOP, "examples")
+DOCUMENTS = ["README.md", "docs/*.md", "examples/README.md"]
 
-# The examples that need the store of others, which come first.
+# The examples that need the store of others, and these.
 AFTER = {"twice": ["first"]}
 
-DOCUMENTS = ["README.md", "examples/README.md", *(os.path.join("docs", name) for name in sorted(os.listdir(os.path.join(TOP, "docs"))))]
-
-INDENT, TYPED = "    ", "    $ "
+INDENT = "    "
 
 
 def read(path):
@@ -29,50 +27,51 @@ def read(path):
         return file.read()
 
 
-def top_with(trial):
-    """The top of the repository; or, where another program is tried, a folder that looks like it."""
+def top_for(trial):
+    """The top of the repository. If another program is tried, a folder that looks like it."""
     if os.path.realpath(trial.program.path) == os.path.realpath(os.path.join(TOP, BUILT)):
         return TOP
     top = os.path.join(trial.folder, "top")
-    shutil.copytree(EXAMPLES, os.path.join(top, "examples"))
+    shutil.copytree(os.path.join(TOP, "examples"), os.path.join(top, "examples"))
     os.makedirs(os.path.dirname(os.path.join(top, BUILT)))
-    os.symlink(trial.program.path, os.path.join(top, BUILT))
-    os.symlink(trial.program.path, os.path.join(top, "splitstore"))
+    for path in ("splitstore", BUILT):
+        os.symlink(trial.program.path, os.path.join(top, path))
     return top
 
 
+def at_top(trial, top, *command):
+    """What a command prints on both streams, and its status. Its temporary files go to the check's folder."""
+    done = subprocess.run(command, cwd=top, env={**trial.program.environment, "TMPDIR": trial.folder}, stdin=subprocess.DEVNULL,
+                          stdout=subprocess.PIPE, stderr=subprocess.STDOUT, timeout=SECONDS, check=False)
+    return done.stdout.decode("utf-8", errors="replace"), done.returncode
+
+
 def sessions(text):
-    """The sessions of a document, each as its lines without the indent, and the number of its first line."""
+    """The sessions of a document: the number of the first line, and the lines without their indent."""
     lines = text.splitlines()
-    at = 0
-    while at < len(lines):
-        start = at
-        while at < len(lines) and lines[at].startswith(INDENT):
-            at += 1
-        if at > start and lines[start].startswith(TYPED):
-            yield start + 1, [line[len(INDENT):] for line in lines[start:at]]
-        at = max(at, start + 1)
+    begins = [at for at, line in enumerate(lines) if line.startswith(INDENT + "$ ") and not (at and lines[at - 1].startswith(INDENT))]
+    for begin in begins:
+        end = next((at for at in range(begin, len(lines)) if not lines[at].startswith(INDENT)), len(lines))
+        yield begin + 1, [line[len(INDENT):] for line in lines[begin:end]]
 
 
-def session_of(lines, top, environment):
-    """What the session looks like when its typed lines are run: each of them, and what it prints."""
+def script_for(lines):
+    """A script that prints each typed line of a session, and then does what it says."""
     script = ""
     for line in lines:
         if line.startswith("$ "):
             quoted = line.replace("'", "'\\''")
             script += f"printf '%s\\n' '{quoted}'\n{line[2:]}\n"
-    done = subprocess.run(["sh", "-c", script], cwd=top, env=environment, stdin=subprocess.DEVNULL,
-                          stdout=subprocess.PIPE, stderr=subprocess.STDOUT, timeout=SECONDS, check=False)
-    return done.stdout.decode("utf-8", errors="replace")
+    return script
 
 
 @check("every session in the documents prints what stands there, byte by byte")
 def documents(trial):
-    top, count = top_with(trial), 0
-    for name in DOCUMENTS:
-        for number, lines in sessions(read(name)):
-            came = session_of(lines, top, {**trial.program.environment, "TMPDIR": trial.folder})
-            expect(f"the session at line {number} of {name}", came, "".join(line + "\n" for line in lines))
+    top, count = top_for(trial), 0
+    for path in sorted(path for pattern in DOCUMENTS for path in glob.glob(os.path.join(TOP, pattern))):
+        for number, lines in sessions(read(path)):
+            came, _ = at_top(trial, top, "sh", "-c", script_for(lines))
+            expect(f"the session at line {number} of {os.path.relpath(path, TOP)}", came, "".join(line + "\n" for line in lines))
             count += 1
     expect_that(count > 5, "the documents have sessions")
     return f"{count} sessions"
@@ -80,41 +79,36 @@ def documents(trial):
 
 @check("every example prints what stands beside it, byte by byte")
 def examples(trial):
-    scripts = sorted(glob.glob(os.path.join(EXAMPLES, "*.script")))
-    for path in scripts:
-        name = os.path.basename(path)[:-len(".script")]
+    names = sorted(name[:-len(".script")] for name in os.listdir(os.path.join(TOP, "examples")) if name.endswith(".script"))
+    for name in names:
         store = new_store(trial, name)
         for each in [*AFTER.get(name, []), name]:
             ended = store.trace(read(f"examples/{each}.script"))
             expect(f"the example {each}", ended, Ended(0, read(f"examples/{each}.out").encode("utf-8"), b""))
-    known = {"README.md", "run"}.union(*({f"{os.path.basename(path)[:-7]}.script", f"{os.path.basename(path)[:-7]}.out"} for path in scripts))
-    expect("the files of examples/", sorted(os.listdir(EXAMPLES)), sorted(known))
-    return f"{len(scripts)} examples"
+    files = {"README.md", "run", *(f"{name}.{kind}" for name in names for kind in ("script", "out"))}
+    expect("the files of examples/", sorted(os.listdir(os.path.join(TOP, "examples"))), sorted(files))
+    return f"{len(names)} examples"
 
 
 @check("examples/run prints `store made` and what its examples print")
 def examples_run(trial):
-    top = top_with(trial)
+    top = top_for(trial)
     for names in ([], ["first"], ["first", "twice"], ["links"]):
-        done = subprocess.run([os.path.join(top, "examples", "run"), *names], env={**trial.program.environment, "TMPDIR": trial.folder},
-                              stdin=subprocess.DEVNULL, stdout=subprocess.PIPE, stderr=subprocess.PIPE, timeout=SECONDS, check=False)
         wanted = "store made\n" + "".join(read(f"examples/{name}.out") for name in names or ["first"])
-        expect(f"examples/run {' '.join(names)}", Ended(done.returncode, done.stdout, done.stderr), Ended(0, wanted.encode("utf-8"), b""))
+        expect(f"examples/run {' '.join(names)}", at_top(trial, top, "examples/run", *names), (wanted, 0))
 
 
-def table_examples(text):
-    """The commands in the last column of the guide's table of statuses, with the status of their row."""
-    for status, cell in re.findall(r"^\| (\d+) \|.*\| ([^|]*) \|$", text.replace("\\|", "\0"), re.MULTILINE):
+def commands_of(text):
+    """The commands in the last column of the guide's table of statuses, each with the status of its row."""
+    for status, cell in re.findall(r"^\| (\d+) \|.*\| ([^|]*) \|$", text.replace(r"\|", "\0"), re.MULTILINE):
         if cell.startswith("`"):
             yield int(status), cell.split("`")[1].replace("\0", "|")
 
 
 @check("every command in the guide's table of statuses ends with its status")
 def statuses(trial):
-    top, found = top_with(trial), list(table_examples(read("docs/GUIDE.md")))
-    for status, command in found:
-        done = subprocess.run(["sh", "-c", command], cwd=top, env={**trial.program.environment, "TMPDIR": trial.folder},
-                              stdin=subprocess.DEVNULL, stdout=subprocess.DEVNULL, stderr=subprocess.DEVNULL, timeout=SECONDS, check=False)
-        expect(f"the status of {command}", done.returncode, status)
-    expect_that(len(found) > 3, "the table of statuses has commands")
-    return f"{len(found)} commands"
+    top, commands = top_for(trial), list(commands_of(read("docs/GUIDE.md")))
+    for status, command in commands:
+        expect(f"the status of {command}", at_top(trial, top, "sh", "-c", command)[1], status)
+    expect_that(len(commands) > 3, "the table of statuses has commands")
+    return f"{len(commands)} commands"

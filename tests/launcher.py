@@ -1,16 +1,14 @@
-"""The launcher, in a repository of its own whose toolchain is a script that says what the real one says."""
-import contextlib
+"""The launcher, in a small repository whose toolchain is a script that prints what the real one prints."""
+import dataclasses
 import os
 import shutil
-import stat
-import subprocess
 import time
 
 from checking import check, expect, expect_that
 from examples import TOP
-from stores import SECONDS, Ended, closing
+from stores import Ended, Program, closing
 
-# Prints where it runs, its arguments and its input, notes which of the streams are open, and ends with status 7.
+# A program that prints its folder, its arguments and its input, notes which streams are open, and ends with status 7.
 PROGRAM = """#!/bin/sh
 streams=
 for stream in 0 1 2; do
@@ -21,7 +19,7 @@ echo "in $PWD: $*: $(cat)"
 exit 7
 """
 
-# Builds that program; or fails, or changes a file meanwhile, where a file beside it says so.
+# A toolchain that builds this program. A file beside it can have it fail, or change a source meanwhile.
 TOOLCHAIN = """#!/bin/sh
 echo "$*" >>"$(dirname "$0")/calls"
 echo 'rt: chose --jobs 2 for low' >&2
@@ -45,7 +43,7 @@ splitstore: proving splitstore
 splitstore: the program is built
 """
 
-# The system's clock for files is coarser than that of processes: so many seconds surely make a newer one.
+# Seconds after which a file that is written is newer: the clock of files is coarse.
 TICK = 0.05
 
 
@@ -64,7 +62,7 @@ class Repository:
         shutil.copy(os.path.join(TOP, "splitstore"), self.launcher)
         os.makedirs(self.tools)
         for each, text in {"rt": TOOLCHAIN, "program": PROGRAM}.items():
-            self.tell(each, text)
+            self.tool(each, text)
             os.chmod(os.path.join(self.tools, each), 0o755)
 
     def write(self, name, text):
@@ -73,44 +71,46 @@ class Repository:
         with open(path, "w", encoding="utf-8") as file:
             file.write(text)
 
-    def run(self, *words, launcher=None, folder=None, script="", path=None, before=()):
-        def prepare():
-            for each in before:
-                each()
+    def run(self, *arguments, launcher=None, folder=None, script="", path=None, before=()):
+        """Runs the launcher, or another command in its place."""
         environment = {**os.environ, "PATH": path or f"{self.tools}:{os.environ['PATH']}"}
-        done = subprocess.run([launcher or self.launcher, *words], cwd=folder or self.top, env=environment, input=script.encode("ascii"),
-                              stdout=subprocess.PIPE, stderr=subprocess.PIPE, timeout=SECONDS, preexec_fn=prepare, check=False)
-        return Ended(done.returncode, done.stdout, done.stderr)
+        return Program(launcher or self.launcher, environment).run(folder or self.top, *arguments, script=script, before=before)
 
     def builds(self):
         """How often the toolchain was called."""
-        with contextlib.suppress(FileNotFoundError), open(os.path.join(self.tools, "calls"), encoding="utf-8") as file:
+        with open(os.path.join(self.tools, "calls"), encoding="utf-8") as file:
             return len(file.readlines())
-        return 0
 
-    def tell(self, what, text=""):
+    def tool(self, name, text=""):
         """Puts a file beside the toolchain, and gives its path."""
-        path = os.path.join(self.tools, what)
+        path = os.path.join(self.tools, name)
         with open(path, "w", encoding="utf-8") as file:
             file.write(text)
         return path
 
 
-def printed(folder, words="", script=""):
-    return Ended(7, f"in {folder}: {words}: {script}\n".encode("utf-8"), b"")
+def printed(folder, arguments="", script=""):
+    """How a run of the built program ends."""
+    return Ended(7, f"in {folder}: {arguments}: {script}\n".encode("utf-8"), b"")
 
 
-@check("the launcher builds the program once, tells its progress on standard error, and hands on arguments, input, folder and status")
+def built(folder, arguments="", script=""):
+    """How a run ends for which the program is built."""
+    return dataclasses.replace(printed(folder, arguments, script), err=PROGRESS)
+
+
+@check("the launcher builds the program once, with its progress on standard error, and passes on arguments, input, folder and status")
 def first_build(trial):
     repository = Repository(trial)
     ended = repository.run("trace", "a b", folder=trial.folder, script="some input")
-    expect("the first run", ended, Ended(7, printed(trial.folder, "trace a b", "some input").out, PROGRESS))
+    expect("the first run", ended, built(trial.folder, "trace a b", "some input"))
     expect("the second run", repository.run("init", folder=trial.folder), printed(trial.folder, "init"))
     expect("how often the toolchain was called", repository.builds(), 1)
     with open(repository.log, encoding="utf-8") as file:
         expect("the log", file.read(), "rt: chose --jobs 2 for low\nfn low::echo: proved\nrt: chose --jobs 4 for splitstore\n"
                "the program is run, and prints this\nrt run ended with status 0\n")
-    expect("the files beside the program", sorted(os.listdir(os.path.dirname(repository.program))), ["build.log", "splitstore", "splitstore.streams"])
+    files = sorted(os.listdir(os.path.dirname(repository.program)))
+    expect("the files beside the program", files, ["build.log", "splitstore", "splitstore.streams"])
 
 
 @check("the launcher works through symbolic links, from any folder, and by its name on the path")
@@ -131,58 +131,60 @@ def links(trial):
     expect("how often the toolchain was called", repository.builds(), 1)
 
 
-@check("the launcher builds anew where a source, a specification, a proof, crates.txt or the toolchain is newer, or a file is gone")
+def expect_build(repository, change, what):
+    """Expects that after a change the next run builds the program, and the one after it does not."""
+    time.sleep(TICK)
+    change()
+    builds = repository.builds()
+    expect(f"a run {what}", repository.run(), built(repository.top))
+    expect(f"the run after a run {what}", repository.run(), printed(repository.top))
+    expect(f"the builds {what}", repository.builds(), builds + 1)
+
+
+@check("the launcher builds again if a source, a specification, a proof, crates.txt or the toolchain is newer, or a file is gone")
 def newer(trial):
     repository = Repository(trial)
     repository.run()
-    paths = [os.path.join(repository.top, "crates", part) for part in ("low/src/lib.rt", "low/specs/Lib.antt", "low/proofs/echo/Answers.antt")]
-    for path in [*paths, os.path.join(repository.top, "crates.txt")]:
-        see_build(repository, lambda it=path: os.utime(it), f"with a newer {path}")
-    # a toolchain that is unpacked keeps its old times, but for that of its change
-    see_build(repository, lambda: os.utime(os.path.join(repository.tools, "rt"), (0, 0)), "with another toolchain")
-    see_build(repository, lambda: os.remove(paths[1]), "without a file that was there")
-    see_build(repository, lambda: os.remove(repository.program), "without the program")
+    parts = ["crates.txt", "crates/low/src/lib.rt", "crates/low/specs/Lib.antt", "crates/low/proofs/echo/Answers.antt"]
+    paths = [os.path.join(repository.top, part) for part in parts]
+    for path in paths:
+        expect_build(repository, lambda it=path: os.utime(it), f"with a newer {path}")
+    # the files of a toolchain that is unpacked have their old times, except that of their change
+    expect_build(repository, lambda: os.utime(os.path.join(repository.tools, "rt"), (0, 0)), "with another toolchain")
+    expect_build(repository, lambda: os.remove(paths[2]), "without a file that was there")
+    expect_build(repository, lambda: os.remove(repository.program), "without the program")
     time.sleep(TICK)
     repository.write("docs/GUIDE.md", "")
     expect("a run with a newer document", repository.run(), printed(repository.top))
 
 
-def see_build(repository, change, what):
-    """Sees that a change has the next run build the program, and the one after it not."""
-    time.sleep(TICK)
-    change()
-    builds = repository.builds()
-    expect(f"a run {what}", repository.run(), Ended(7, printed(repository.top).out, PROGRESS))
-    expect(f"the run after a run {what}", repository.run(), printed(repository.top))
-    expect(f"the builds {what}", repository.builds(), builds + 1)
-
-
-@check("a file that changes while the program is built has it built again")
+@check("the launcher builds again if a source changed while it built")
 def changed_meanwhile(trial):
     repository = Repository(trial)
-    changes = repository.tell("changes")
+    changes = repository.tool("changes")
     repository.run()
     os.remove(changes)
-    expect("the run after a file changed", repository.run(), Ended(7, printed(repository.top).out, PROGRESS))
+    expect("the run after a file changed", repository.run(), built(repository.top))
     expect("the run after it", repository.run(), printed(repository.top))
 
 
-@check("where the program is not proved the launcher ends with status 1 and the place of the log, and tries again the next time")
+@check("if the program is not proved, the launcher ends with status 1 and the place in the log, and tries again the next time")
 def failing_build(trial):
     repository = Repository(trial)
     for _ in range(2):
-        fails = repository.tell("fails")
+        fails = repository.tool("fails")
         wanted = b"".join(PROGRESS.splitlines(keepends=True)[:2])
         wanted += f"splitstore: the program was not built; the log says why: {repository.log}:3\n".encode("utf-8")
         expect("a run that is not proved", repository.run("trace", script="0 open\n"), Ended(1, b"", wanted))
-        expect("the files beside the program", [each for each in os.listdir(os.path.dirname(repository.program)) if "begun" in each], [])
+        files = os.listdir(os.path.dirname(repository.program))
+        expect_that(not any("begun" in name for name in files), f"the files beside the program are {files}")
         os.remove(fails)
-        expect("a run that is proved", repository.run(), Ended(7, printed(repository.top).out, PROGRESS))
+        expect("a run that is proved", repository.run(), built(repository.top))
         time.sleep(TICK)
         os.utime(os.path.join(repository.top, "crates.txt"))
 
 
-@check("without a toolchain the launcher runs a program that is built, and else says that it is missing")
+@check("without a toolchain the launcher runs a program that is built, and otherwise says that the toolchain is missing")
 def no_toolchain(trial):
     repository = Repository(trial)
     bare = os.path.join(trial.folder, "bare")
@@ -195,7 +197,7 @@ def no_toolchain(trial):
     expect("a run of what is built", repository.run(path=bare), printed(repository.top))
 
 
-@check("the launcher runs and builds the program with streams closed, which are closed for the program too")
+@check("the launcher builds and runs with streams closed, and they are closed for the program too")
 def closed_descriptors(trial):
     for number, closed in enumerate([(0,), (1,), (2,), (0, 1), (0, 2), (1, 2), (0, 1, 2)]):
         repository = Repository(trial, f"with {number} closed")
@@ -203,7 +205,8 @@ def closed_descriptors(trial):
             ended = repository.run(before=[closing(*closed)])
             expect(f"the status of the {what} run with {closed} closed", ended.status, 7)
             with open(f"{repository.program}.streams", encoding="ascii") as file:
-                expect(f"the streams that are open where {closed} are closed", file.read(), "".join(each for each in "012" if int(each) not in closed) + "\n")
+                streams = "".join(str(each) for each in range(3) if each not in closed)
+                expect(f"the open streams of the program with {closed} closed", file.read(), f"{streams}\n")
             if 1 not in closed:
                 expect(f"standard output of the {what} run with {closed} closed", ended.out, printed(repository.top).out)
             if 2 not in closed and what == "first":

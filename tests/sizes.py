@@ -24,7 +24,7 @@ def large_log(trial):
         store.put(random_block(trial.random, trial.random.randint(1, 200_000)))
         expect("a put of large blocks", store.answers_to(put_line(*together)), ["stored 3"])
         store.blocks += together
-        store.see("in a log that grows")
+        store.expect_found("in a log that grows")
     return f"{len(store.blocks)} blocks in {os.path.getsize(os.path.join(store.folder, HOT)) / MIB:.1f} MiB"
 
 
@@ -39,7 +39,7 @@ def last_row(trial):
         expect("puts up to the last row", store.answers_to(*map(put_line, blocks), put_line(more), put_line(*blocks)),
                ["stored 1"] * rows + [full, "stored 0"])
         store.blocks = blocks
-        store.see("at the last row")
+        store.expect_found("at the last row")
         expect("puts after opening again", store.answers_to(put_line(more), put_line(*blocks, more), put_line(*blocks), get_line(more)),
                [full, full, "stored 0", "not-found"])
 
@@ -59,11 +59,11 @@ def last_byte(trial):
         expect("a record that is one byte too large", store.answers_to(put_line(larger)), [f"log-full 0 {room + 1} {room}"])
         store.put(exact)
         expect("the length of the log", os.path.getsize(os.path.join(store.folder, HOT)), limit)
-        store.see("at the limit")
+        store.expect_found("at the limit")
         small = random_block(trial.random, 0)
         expect("a put on a full log", store.answers_to(put_line(small), put_line(exact), get_line(small)),
                [f"log-full 0 {RECORD + EACH + len(small.cid)} 0", "stored 0", "not-found"])
-        store.see("after a put that found no room")
+        store.expect_found("after a put that found no room")
 
 
 @check("a block of the largest size is kept, and one of a byte more is too-large")
@@ -78,7 +78,7 @@ def largest_block(trial):
     store.blocks.append(block(random_bytes(trial.random, BLOCK_BYTES - prefix), LONG_CODEC, BLAKE2B_256))
     line = f"0 put 0 {cid_text(store.blocks[0].cid)} {digits(store.blocks[0].data)}\n"
     expect("the largest block", store.answers_to(line), ["stored 1"])
-    store.see("after the largest block was put")
+    store.expect_found("after the largest block was put")
 
 
 @check("a put of the most bytes is judged pair by pair, and one of a byte more is too-big")
@@ -92,7 +92,7 @@ def most_bytes(trial):
     for more, answer in ((0, "mismatch 0"), (1, f"too-big {PUT_BYTES + 1}")):
         last = random_block(trial.random, rest + more)
         expect(f"a put of {more} bytes more than the most", store.answers_to(put_line(*pairs, last)), [answer])
-    store.see("after puts that were refused")
+    store.expect_found("after puts that were refused")
 
 
 @check("a script of the most bytes is run, and one of a byte more is refused")

@@ -1,4 +1,4 @@
-"""Runs of the program, stores in folders, blocks, and scripts."""
+"""Runs of the program, stores in folders, and scripts."""
 import dataclasses
 import os
 import shutil
@@ -19,10 +19,15 @@ HOT = FILES[0]
 
 @dataclasses.dataclass(frozen=True)
 class Ended:
-    """How a run ended: its status, below 0 for a signal, and what it wrote."""
+    """How a run ended: its status, negative for a signal, and what it wrote."""
     status: int
     out: bytes
     err: bytes
+
+
+MADE = Ended(0, b"store made\n", b"")
+EXISTS = Ended(7, b"error: store exists\n", b"")
+NO_STORE = Ended(7, b"error: no store\n", b"")
 
 
 class Program:
@@ -30,24 +35,28 @@ class Program:
 
     def __init__(self, path, environment=None):
         self.path = path
-        self.environment = {**os.environ, "LC_ALL": "C", **(environment or {})}
+        self.environment = environment or {**os.environ, "LC_ALL": "C"}
 
-    def with_environment(self, **environment):
-        """The same program, with these variables of the environment too."""
-        return Program(self.path, {**self.environment, **environment})
+    def with_environment(self, **variables):
+        """The same program, with these environment variables too."""
+        return Program(self.path, {**self.environment, **variables})
 
-    def start(self, folder, *words, before=(), **streams):
-        """Starts a run in a folder. `before` has what is done in the new process just before the program begins."""
+    def start(self, folder, *arguments, before=(), **streams):
+        """Starts a run in a folder. `before` has what the new process does just before the program begins."""
         def prepare():
             for each in before:
                 each()
         streams = {"stdin": subprocess.DEVNULL, "stdout": subprocess.PIPE, "stderr": subprocess.PIPE, **streams}
-        return subprocess.Popen([self.path, *words], cwd=folder, env=self.environment, preexec_fn=prepare, **streams)
+        return subprocess.Popen([self.path, *arguments], cwd=folder, env=self.environment, preexec_fn=prepare, **streams)
 
-    def run(self, folder, *words, script="", before=(), **streams):
+    def run(self, folder, *arguments, script="", before=()):
         """Runs the program in a folder, with a script as its standard input."""
-        process = self.start(folder, *words, before=before, **{"stdin": subprocess.PIPE, **streams})
-        return finish(process, script)
+        return finish(self.start(folder, *arguments, before=before, stdin=subprocess.PIPE), script)
+
+    def run_on(self, path, folder, *arguments):
+        """Runs the program in a folder, with a file as its standard input."""
+        with open(path, "rb") as file:
+            return finish(self.start(folder, *arguments, stdin=file))
 
 
 def finish(process, script=""):
@@ -63,20 +72,20 @@ def finish(process, script=""):
 
 
 def closing(*descriptors):
-    """Closes descriptors, in the new process."""
+    """Closes descriptors, in a new process."""
     def close():
         for descriptor in descriptors:
             os.close(descriptor)
     return close
 
 
-def put_line(*blocks, view=0):
-    """The line that puts these blocks at once, by client 0."""
-    return " ".join([f"0 put {view}", *(f"{each.cid.hex()} {digits(each.data)}" for each in blocks)]) + "\n"
+def put_line(*blocks):
+    """The line that puts these blocks at once, by client 0 under its first view."""
+    return " ".join(["0 put 0", *(f"{each.cid.hex()} {digits(each.data)}" for each in blocks)]) + "\n"
 
 
-def get_line(each, view=0):
-    return f"0 get {view} {each.cid.hex()}\n"
+def get_line(each):
+    return f"0 get 0 {each.cid.hex()}\n"
 
 
 def script_of(*lines):
@@ -84,29 +93,39 @@ def script_of(*lines):
     return "".join(["0 open\n", *lines])
 
 
+def puts_and_gets(blocks):
+    """A script that puts each block and gets it."""
+    return script_of(*(line(each) for each in blocks for line in (put_line, get_line)))
+
+
+def found(each):
+    """The answer to a get of a block that is kept."""
+    return f"found {digits(each.data)}"
+
+
 def answers(out):
-    """The answers that a run of a script printed, in order; of the last line only where it is whole."""
+    """The answers that a run of a script printed, in order; not that of a last line which is not whole."""
     return [line.split(b" = ", 1)[1].decode("ascii") for line in out.split(b"\n")[:-1] if b" = " in line]
 
 
 class Store:
-    """A store in a folder of its own, with the blocks that it is known to have."""
+    """A store in a folder of its own, with the blocks that it is known to keep."""
 
-    def __init__(self, program, folder):
+    def __init__(self, program, folder, blocks=()):
         self.program = program
         self.folder = folder
-        self.blocks = []
+        self.blocks = list(blocks)
 
     def init(self, *settings):
         """Makes the store."""
-        expect("init", self.program.run(self.folder, *INIT, *settings), Ended(0, b"store made\n", b""))
+        expect("init", self.program.run(self.folder, *INIT, *settings), MADE)
         return self
 
-    def trace(self, script, before=(), program=None):
-        return (program or self.program).run(self.folder, "trace", script=script, before=before)
+    def trace(self, script, before=()):
+        return self.program.run(self.folder, "trace", script=script, before=before)
 
     def answers_to(self, *lines):
-        """The answers to these lines behind an `open`, in a run that ends well."""
+        """The answers to these lines after an `open`, in a run that ends well."""
         ended = self.trace(script_of(*lines))
         expect("the status and standard error of a run", (ended.status, ended.err), (0, b""))
         return answers(ended.out)[1:]
@@ -117,33 +136,29 @@ class Store:
         self.blocks += blocks
         return self
 
-    def see(self, when, *blocks):
-        """Sees that the blocks, or else all that the store is known to have, are found with their bytes."""
+    def expect_found(self, when, *blocks):
+        """Expects that these blocks, or else all that the store is known to keep, are found with their bytes."""
         blocks = blocks or self.blocks
-        for at in range(0, len(blocks), 1000):
-            part = blocks[at:at + 1000]
-            wanted = [f"found {digits(each.data)}" for each in part]
-            expect(f"gets of what was stored, {when}", self.answers_to(*map(get_line, part)), wanted)
+        expect(f"gets of what was stored, {when}", self.answers_to(*map(get_line, blocks)), list(map(found, blocks)))
 
     def files(self):
-        """The bytes of each file in the folder."""
-        return files_of(self.folder)
+        return files_in(self.folder)
 
     def log(self):
         """The bytes of the hot log."""
         return self.files()[HOT]
 
 
-def files_of(folder):
-    """The bytes of each file in a folder, None for what is no file."""
-    found = {}
+def files_in(folder):
+    """The bytes of each file in a folder, by its name; None for what is no file."""
+    files = {}
     for name in sorted(os.listdir(folder)):
         path = os.path.join(folder, name)
-        found[name] = None
+        files[name] = None
         if os.path.isfile(path):
             with open(path, "rb") as file:
-                found[name] = file.read()
-    return found
+                files[name] = file.read()
+    return files
 
 
 def new_folder(trial, name):
@@ -159,16 +174,23 @@ def new_store(trial, name="store", *settings):
 
 
 def copied(trial, store):
-    """A copy of a store, with what it is known to have."""
-    copy = Store(trial.program, os.path.join(trial.folder, "copy"))
-    shutil.rmtree(copy.folder, ignore_errors=True)
-    shutil.copytree(store.folder, copy.folder)
-    copy.blocks = list(store.blocks)
-    return copy
+    """A copy of a store, in place of the last one."""
+    folder = os.path.join(trial.folder, "copy")
+    shutil.rmtree(folder, ignore_errors=True)
+    shutil.copytree(store.folder, folder)
+    return Store(trial.program, folder, store.blocks)
+
+
+def written(trial, text, name="script"):
+    """The path of a file with this text."""
+    path = os.path.join(trial.folder, name)
+    with open(path, "w", encoding="ascii") as file:
+        file.write(text)
+    return path
 
 
 def expect_log_kept(what, before, after):
-    """Sees that no byte of a log has changed before its old end, which is the place of its closed gate."""
+    """Expects that no byte of a log has changed before its old end, which is the place of its closed gate."""
     end = len(before) - 1
     expect_that(before[end:] == b"\0", f"{what}: the log did not end with a closed gate")
     expect(f"{what}: the bytes of the log before its old end", after[:end], before[:end])

@@ -25,8 +25,6 @@ mod help;
 pub mod laws;
 mod run;
 mod store;
-#[cfg(test)]
-mod tests;
 mod words;
 
 pub use run::{Exit, run_alone};

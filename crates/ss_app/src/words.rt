@@ -7,9 +7,6 @@ ghost use Rattle.ss_records.specs.Record.{SettingsFit};
 ghost use Rattle.ss_app.specs.declared.words.Command.TheVariants.{Init};
 ghost use Rattle.ss_app.specs.Words.{CommandFits, command_of, words_of, alone, init_of, settings_from, no_settings, mode_of, number_within, once};
 
-#[cfg(test)]
-mod tests;
-
 use ss_records::{Config, Mode};
 use ss_script::is_number;
 

@@ -1,12 +1,9 @@
 ghost use Rattle.std.specs.Prelude.{◌<◌};
 
 mod crash;
-mod damage;
-mod disk;
 
-use super::blocks::{BlockFault, check_block};
-use super::{Exit, run_alone};
-use ss_cid::{Bytes, Cid};
+use ss_app::{Exit, run_alone};
+use ss_cid::Bytes;
 use ss_disk::{Disk, MemoryDisk};
 use ss_io::{MemorySink, MemorySource};
 use std::alloc::Global;
@@ -14,8 +11,6 @@ use std::test::Fail;
 
 // The digests of blocks are those that Python's hashlib computes.
 const ABC: &str = "01551220ba7816bf8f01cfea414140de5dae2223b00361a396177a9cb410ff61f20015ad";
-
-const ABC_TEXT: &str = "bafkreif2pall7dybz7vecqka3zo24irdwabwdi4wc55jznaq75q7eaavvu";
 
 const NOTHING: &str = "01551220e3b0c44298fc1c149afbf4c8996fb92427ae41e4649b934ca495991b7852b855";
 
@@ -142,115 +137,6 @@ fn reading(alloc: Global, disk: MemoryDisk) -> Result<(u8, String), Fail> {
 }
 
 #[test]
-fn a_trace_prints_each_call_with_its_answer(rt: HostRuntime) -> Result<(), Fail> {
-    let table = [
-        // A block is put and read.
-        (
-            format!(in rt.alloc(); "0 open\n0 put 0 {ABC} 616263\n0 get 0 {ABC}\n")?,
-            "1 0 1 open = opened 0\n2 0 2 put 0 = stored 1\n3 0 3 get 0 = found 616263\n",
-        ),
-        // A wrong digest is refused, and nothing is kept.
-        (
-            format!(in rt.alloc(); "0 open\n0 put 0 {ABC} 616264\n0 get 0 {ABC}\n")?,
-            "1 0 1 open = opened 0\n2 0 2 put 0 = mismatch 0\n3 0 3 get 0 = not-found\n",
-        ),
-        // Each client has views of its own; comments and blank lines are counted.
-        (
-            format!(in rt.alloc();
-                "1 open\n\n# c\n0 get 0 {ABC}\n0 open\n0 get 0 {ABC}\n1 get 1 {ABC}"
-            )?,
-            "1 1 1 open = opened 0\n2 0 4 get - = bad-view\n3 0 5 open = opened 1\n4 0 6 get 1 = not-found\n5 1 7 get - = bad-view\n",
-        ),
-        // A CID is one block, under its text and under its bytes.
-        (
-            format!(in rt.alloc();
-                "0 open\n0 put 0 {ABC} 616263 {ABC_TEXT} 616263\n0 put 0 {ABC} 616263\n0 get 0 {ABC_TEXT}\n"
-            )?,
-            "1 0 1 open = opened 0\n2 0 2 put 0 = stored 1\n3 0 3 put 0 = stored 0\n4 0 4 get 0 = found 616263\n",
-        ),
-        // The first pair at fault is named, and no pair of its put is kept.
-        (
-            format!(in rt.alloc();
-                "0 open\n0 put 0 {NOTHING} - {ABC} 616264\n0 get 0 {NOTHING}\n0 put 0\n"
-            )?,
-            "1 0 1 open = opened 0\n2 0 2 put 0 = mismatch 1\n3 0 3 get 0 = not-found\n4 0 4 put 0 = stored 0\n",
-        ),
-        // An identity CID is its own block and is never stored.
-        (
-            format!(in rt.alloc();
-                "0 open\n0 get 0 bafkqaaa\n0 put 0 bafkqaaa -\n0 put 0 0155000161 61\n"
-            )?,
-            "1 0 1 open = opened 0\n2 0 2 get 0 = found -\n3 0 3 put 0 = stored 0\n4 0 4 put 0 = stored 0\n",
-        ),
-        // Blocks that are no items, and a hash function that is not known.
-        (
-            format!(in rt.alloc();
-                "0 open\n0 put 0 017100028201 8201\n0 put 0 017100029fff 9fff\n0 put 0 0155130161 61\n"
-            )?,
-            "1 0 1 open = opened 0\n2 0 2 put 0 = malformed 0 1 2\n3 0 3 put 0 = malformed 0 3 0\n4 0 4 put 0 = unknown-hash 0\n",
-        ),
-        // BLAKE2b of `abc`, and an array of one link.
-        (
-            format!(in rt.alloc();
-                "0 open\n0 put 0 bafk2bzacec653aj4mnbds4rrohxt73uyk6nzjfsohoy4wpscojrmrqdi2urrs 616263 {LINK} {LINK_BYTES}\n"
-            )?,
-            "1 0 1 open = opened 0\n2 0 2 put 0 = stored 2\n",
-        ),
-    ];
-    for (script, printed) in &table {
-        let disk = made(rt.alloc(), "depth=0")?;
-        let ran = run(rt.alloc(), "trace", script.as_str(), disk)?;
-        assert_eq!(rt; (ran.status, ran.written.as_str()), (0, *printed));
-    }
-    Ok(())
-}
-
-#[test]
-fn words_and_lines_that_are_not_of_the_form(rt: HostRuntime) -> Result<(), Fail> {
-    let usage = [
-        ("", "error: usage 0\n"),
-        ("walk", "error: usage 0\n"),
-        ("trace x=1", "error: usage 1\n"),
-        ("init", "error: usage 1\n"),
-        ("init mode=warm", "error: usage 1\n"),
-    ];
-    for (words, line) in usage {
-        let ran = run(rt.alloc(), words, "0 open\n", MemoryDisk::new(rt.alloc())?)?;
-        assert_eq!(rt; (ran.status, ran.written.as_str()), (2, line));
-        assert_eq!(rt; ran.disk.calls(), 0);
-    }
-    let lines = [
-        "8 open",
-        "0 close 0",
-        "0 open x",
-        "0 get 01 bafkqaaa",
-        "0 get 4294967296 bafkqaaa",
-        "0 get 0 bafkqaab",
-        "0 get 0 015500000",
-        "0 put 0 bafkqaaa",
-        "0 put 0 bafkqaaa 616",
-        " open",
-        "0 open\r",
-    ];
-    for line in lines {
-        let script = format!(in rt.alloc(); "# first\n0 open\n{line}\n")?;
-        let ran = run(
-            rt.alloc(),
-            "trace",
-            script.as_str(),
-            MemoryDisk::new(rt.alloc())?,
-        )?;
-        assert_eq!(rt;
-            (ran.status, ran.written.as_str()),
-            (9, "error: script 3 9\n"),
-            "at {line}"
-        );
-        assert_eq!(rt; ran.disk.calls(), 0);
-    }
-    Ok(())
-}
-
-#[test]
 fn ends_that_fail(rt: HostRuntime) -> Result<(), Fail> {
     // Two reads take the script, and a third finds its end.
     let comment = "#".repeat(rt.alloc(), 9000)?;
@@ -286,7 +172,10 @@ fn ends_that_fail(rt: HostRuntime) -> Result<(), Fail> {
         let status = if call < 34 { 5 } else { 0 };
         assert_eq!(rt; ran.status, status, "at put {call}");
         assert!(rt; lines.starts_with(ran.written.as_str()), "at put {call}");
-        assert!(rt; call == 0 || written < ran.written.len() || call > 32, "at put {call}");
+        assert!(rt;
+            call == 0 || written < ran.written.len() || call > 32,
+            "at put {call}"
+        );
         written = ran.written.len();
     }
     assert_eq!(rt; written, lines.len());
@@ -311,55 +200,6 @@ fn calls_go_on_when_the_sink_fails(rt: HostRuntime) -> Result<(), Fail> {
     assert_eq!(rt;
         reading(rt.alloc(), ran.disk)?,
         (0, found(rt.alloc(), &[true, false, false])?)
-    );
-    Ok(())
-}
-
-#[test]
-fn a_script_that_is_too_long(rt: HostRuntime) -> Result<(), Fail> {
-    // As many bytes as a script may have.
-    let full = "#".repeat(rt.alloc(), 4096)?.repeat(rt.alloc(), 4096)?;
-    for (more, status, line) in [("#", 13, "error: too long\n"), ("", 0, "")] {
-        let script = format!(in rt.alloc(); "{full}{more}")?;
-        let disk = made(rt.alloc(), "depth=0")?;
-        let ran = run(rt.alloc(), "trace", script.as_str(), disk)?;
-        assert_eq!(rt; (ran.status, ran.written.as_str()), (status, line));
-    }
-    Ok(())
-}
-
-#[test]
-fn puts_that_are_too_big(rt: HostRuntime) -> Result<(), Fail> {
-    let many = " bafkqaaa -".repeat(rt.alloc(), 1025)?;
-    // The CID of 65,433 zero bytes, by Python's hashlib; they count for each pair that names it once they are kept.
-    let zeros = "015512203c4e566dd10b8510fc2fec496bf4ac95054c25b5bce2680a24501a3c80ee1fc0";
-    let bytes = "00".repeat(rt.alloc(), 65433)?;
-    let most = format!(in rt.alloc(); " {zeros} -")?.repeat(rt.alloc(), 240)?;
-    let script = format!(in rt.alloc();
-        "0 open\n0 put 0{many}\n0 put 0 {zeros} {bytes}\n0 put 0{most}\n0 put 0{most} {zeros} -"
-    )?;
-    let disk = made(rt.alloc(), "depth=0")?;
-    let ran = run(rt.alloc(), "trace", script.as_str(), disk)?;
-    assert_eq!(rt;
-        answers(rt.alloc(), ran.written.as_str())?.as_str(),
-        "opened 0; too-many 1025; stored 1; mismatch 0; too-big 15778996"
-    );
-    assert_eq!(rt; ran.status, 0);
-    Ok(())
-}
-
-#[test]
-fn a_block_that_is_too_large(rt: HostRuntime) -> Result<(), Fail> {
-    let (cid, _) = Cid::parse(&[1, 0x55, 0, 0])?;
-    let mut block = vec![in rt.alloc(); 0u8; 8388605]?;
-    assert_eq!(rt;
-        check_block(&cid, block.as_slice()),
-        Err(BlockFault::TooLarge)
-    );
-    let _ = block.pop();
-    assert_eq!(rt;
-        check_block(&cid, block.as_slice()),
-        Err(BlockFault::Mismatch)
     );
     Ok(())
 }

@@ -24,7 +24,9 @@ def interrupted(trial):
     expect("the end of a calm run", (usual.status, usual.err, len(answers(usual.out))), (0, b"", 6))
     files, count = calm.files(), 0
     for call, file in (("pwrite", HOT), ("pread", HOT), ("read", "stdin"), ("write", "stdout")):
-        for number in range(1, len(on(made, file, call)) + 1):
+        calls = on(made, file, call)
+        expect_that(calls, f"there is a {call} of {file}")
+        for number in range(1, len(calls) + 1):
             for error, how in ((errno.EINTR, "interrupted"), (ONE_BYTE, "of one byte")):
                 copy = copied(trial, store)
                 ended, _ = run(trial, copy.folder, "trace", script=script, rules=[(call, file, number, error)])
@@ -50,6 +52,7 @@ def failed_output(trial):
         reasons = [reason("standard output", call, errno.ENOSPC) for call in ("write", "flush")]
         expect_that(ended.err in reasons, f"standard error if write {number} fails is {ended.err!r}")
         expect(f"the files if write {number} fails", copy.files(), files)
+    return f"{count} writes"
 
 
 @check("if standard input fails at any read, the status is 4 with its reason, and the store is as it was")
@@ -57,11 +60,14 @@ def failed_input(trial):
     store = filled(trial)
     script = script_of(*(put_line(random_block(trial.random, 3000)) for _ in range(5)))
     before = store.files()
-    _, made = run(trial, copied(trial, store).folder, "trace", script=script)
-    for number in range(1, len(on(made, "stdin", "read")) + 1):
+    _, calm = run(trial, copied(trial, store).folder, "trace", script=script)
+    count = len(on(calm, "stdin", "read"))
+    expect_that(count > 1, "the input is read in several parts")
+    for number in range(1, count + 1):
         ended, _ = run(trial, store.folder, "trace", script=script, rules=[("read", "stdin", number, errno.EIO)])
         expect(f"trace if read {number} fails", ended, Ended(4, b"error: read fault\n", reason("standard input", "read", errno.EIO)))
     expect("the files of the store", store.files(), before)
+    return f"{count} reads"
 
 
 def keep_answers(what, model, calls, got):

@@ -4,6 +4,7 @@ import os
 import resource
 import shutil
 import signal
+import subprocess
 
 from checking import Skipped, check, expect
 from formats import random_block
@@ -64,7 +65,8 @@ def init_on_full_disk(trial):
 def ended_by_limit(trial):
     store = filled(trial)
     script = puts_and_gets([random_block(trial.random, 10_000) for _ in range(9)])
-    ended = store.trace(script, before=[lambda: resource.setrlimit(resource.RLIMIT_FSIZE, (80_000, 80_000))])
+    limits = {resource.RLIMIT_CORE: (0, 0), resource.RLIMIT_FSIZE: (80_000, 80_000)}
+    ended = store.trace(script, before=[lambda it=each: resource.setrlimit(*it) for each in limits.items()])
     expect("the signal that ended the run", ended.status, -signal.SIGXFSZ)
     store.expect_found("after the system ended a run")
     store.put(random_block(trial.random, 10)).expect_found("after another run")
@@ -119,7 +121,7 @@ def unprivileged(trial):
     program = Program(copy, trial.program.environment)
     try:
         program.run("/", "--version", before=[become_nobody])
-    except OSError as why:
+    except (OSError, subprocess.SubprocessError) as why:
         raise Skipped(f"this runs as root, and cannot become another user: {why}") from None
     return program, [become_nobody]
 

@@ -100,6 +100,7 @@ def failed_sync(trial):
                          (put_line(each), get_line(store.blocks[1]), put_line(store.blocks[2]), get_line(missing))))
     _, calm = run(trial, copied(trial, store).folder, "trace", script=script)
     opening = [each.call for each in on(calm, HOT, "pwrite", "fdatasync")].index("pwrite")
+    expect_that(opening > 0, "the log is synced as the store is opened")
     for number in range(1, opening + 2 * len(new) + 1):
         copy = copied(trial, store)
         ended, _ = run(trial, copy.folder, "trace", script=script, rules=[("fdatasync", HOT, number, errno.EIO)])
@@ -114,19 +115,23 @@ def failed_sync(trial):
             copy.blocks += [each for each, answer in zip(new, wanted[1::4]) if answer != "fault"]
         copy.expect_found(f"after a run whose sync {number} failed")
         copy.put(random_block(trial.random, 7)).expect_found("after a put")
+    return f"{opening + 2 * len(new)} syncs, {opening} of the opening"
 
 
 @check("a sync of a file or of the folder that fails ends init with status 6 and its reason, and init can be run again")
 def failed_sync_of_init(trial):
     _, calm = run(trial, new_folder(trial, "calm"), *INIT)
-    for call, file in sorted({(each.call, each.file) for each in calm if each.call in ("fsync", "fdatasync")}):
-        for number in range(1, len(on(calm, file, call)) + 1):
-            store = Store(trial.program, new_folder(trial, f"{call}-{file}-{number}"))
-            ended, _ = run(trial, store.folder, *INIT, rules=[(call, file, number, errno.EIO)])
-            expect(f"init if {call} {number} of {file} fails", ended, disk_fault(file, "sync", errno.EIO))
-            again = trial.program.run(store.folder, *INIT)
-            expect_that(again in (MADE, EXISTS), f"a second init ended with {again}")
-            store.put(random_block(trial.random, 10)).expect_found("after a second init")
+    syncs = [(call, file, number) for call, file in [("fsync", "."), *(("fdatasync", name) for name in FILES)]
+             for number in range(1, len(on(calm, file, call)) + 1)]
+    expect_that(len(syncs) >= 2 * len(FILES), "init syncs each file, and the folder after it")
+    for call, file, number in syncs:
+        store = Store(trial.program, new_folder(trial, f"{call}-{file}-{number}"))
+        ended, _ = run(trial, store.folder, *INIT, rules=[(call, file, number, errno.EIO)])
+        expect(f"init if {call} {number} of {file} fails", ended, disk_fault(file, "sync", errno.EIO))
+        again = trial.program.run(store.folder, *INIT)
+        expect_that(again in (MADE, EXISTS), f"a second init ended with {again}")
+        store.put(random_block(trial.random, 10)).expect_found("after a second init")
+    return f"{len(syncs)} syncs"
 
 
 @check("a sync of the folder that fails ends trace with status 6 and its reason")

@@ -10,4 +10,5 @@ pub mod Calls
 pub mod Whitened
 pub mod Fresh
 pub mod Membership
+pub mod Using
 pub mod Prefixes

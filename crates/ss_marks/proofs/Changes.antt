@@ -82,8 +82,8 @@ module _ (rows rows' : List Row) (r : ℕ) (cid : List ℕ) (old new : Colour) (
       (λ (e : k ≡ r). slot_is rows e re.was re.cid_was ∙ sym (slot_is rows' e re.now re.cid_now))
       (λ (e : k ≢ r). ap (λ (row : Row). option_map (λ _. slot_of row.cid n) row.colour) (sym (re.others k e)))
       (cases_eq k r) where
-    slot_is : (xs : List Row) {c : Colour} → k ≡ r → (row_at xs r).colour ≡ Some c → (row_at xs r).cid ≡ cid → slot_at xs n k ≡ Some (slot_of cid n)
-    slot_is xs e colour is = ap (λ x. slot_at xs n x) e ∙ ap (λ o. option_map (λ _. slot_of (row_at xs r).cid n) o) colour ∙ ap (λ x. Some (slot_of x n)) is
+        slot_is : (xs : List Row) {c : Colour} → k ≡ r → (row_at xs r).colour ≡ Some c → (row_at xs r).cid ≡ cid → slot_at xs n k ≡ Some (slot_of cid n)
+        slot_is xs e colour is = ap (λ x. slot_at xs n x) e ∙ ap (λ o. option_map (λ _. slot_of (row_at xs r).cid n) o) colour ∙ ap (λ x. Some (slot_of x n)) is
 
   pub recoloured_index : (index : Index) → Indexes rows index → Indexes rows' index
   recoloured_index index indexed =
@@ -114,10 +114,9 @@ module _ (rows rows' : List Row) (r : ℕ) (cid : List ℕ) (old new : Colour) (
   still_grey k other grey = ap (λ (x : Row). x.colour) (re.others k other) ∙ grey
 
 module _ (m m' : Inside) (sound : IsSound m) (r : ℕ) (cid : List ℕ) (old new : Colour) (re : Recoloured m.rows.items m'.rows.items r cid old new)
-  (capacity : vec_capacity m'.rows ≡ vec_capacity m.rows) (long : length m'.links.items ≡ length m.links.items)
-  (links : (k : ℕ) → k ≢ r → get_or m'.links.items k 0 ≡ get_or m.links.items k 0)
-  (index : m'.index ≡ m.index) (vacant : m'.vacant ≡ m.vacant) (live : m'.live ≡ m.live) (limit : m'.limit ≡ m.limit) where
-
+    (capacity : vec_capacity m'.rows ≡ vec_capacity m.rows) (long : length m'.links.items ≡ length m.links.items)
+    (links : (k : ℕ) → k ≢ r → get_or m'.links.items k 0 ≡ get_or m.links.items k 0)
+    (index : m'.index ≡ m.index) (vacant : m'.vacant ≡ m.vacant) (live : m'.live ≡ m.live) (limit : m'.limit ≡ m.limit) where
   pub recoloured_sound : IsStack (IsGrey m'.rows.items) m'.links.items m'.greys.len m'.greys.top
       → m'.greys.len + one (same_colour Grey old) ≡ m.greys.len + one (same_colour Grey new) → m'.out + one (same_colour Out old) ≡ m.out + one (same_colour Out new) → IsSound m'
   recoloured_sound greys grey out =
@@ -130,7 +129,7 @@ module _ (m m' : Inside) (sound : IsSound m) (r : ℕ) (cid : List ℕ) (old new
         distinct = recoloured_distinct rows rows' r cid old new re sound.distinct;
         index = subst (λ x. Indexes rows' x) (sym index) (recoloured_index rows rows' r cid old new re m.index sound.index);
         vacant = subst (λ x. IsStack (IsVacant rows') m'.links.items x.len x.top) (sym vacant)
-          (same_stack (IsVacant rows) (IsVacant rows') m.links.items m'.links.items (recoloured_vacant rows rows' r cid old new re)
+            (same_stack (IsVacant rows) (IsVacant rows') m.links.items m'.links.items (recoloured_vacant rows rows' r cid old new re)
             (λ k v. links k (λ e. none-some old (sym v.is ∙ ap (λ x. (row_at rows x).colour) e ∙ re.was))) m.vacant.len m.vacant.top sound.vacant);
         greys = greys;
         live = live ∙ sound.live ∙ sym (recoloured_len rows rows' r cid old new re sound.distinct);

@@ -51,24 +51,24 @@ module _ (colour : Colour) where
   module _ (marks : CidMap Mark) (cid : List ℕ) where
     in_insert : (mark : Mark) → same_colour colour mark.colour ≡ true → marks_in colour (finite_map.insert marks cid mark) ≡ finite_map.insert (marks_in colour marks) cid mark
     in_insert mark is = finite_map.same_map by_bytes exact _ _ (λ q.
-      get_in (finite_map.insert marks cid mark) q
-      ∙ ap (λ o. cond (has_colour colour o) o None) (finite_map.get-insert by_bytes marks cid mark q)
-      ∙ put_one (eq_by_cmp (slice_cmp nat_cmp) q cid) mark (finite_map.get marks q) is
-      ∙ sym (finite_map.get-insert by_bytes (marks_in colour marks) cid mark q ∙ ap (λ o. cond (eq_by_cmp (slice_cmp nat_cmp) q cid) (Some mark) o) (get_in marks q)))
+        get_in (finite_map.insert marks cid mark) q
+        ∙ ap (λ o. cond (has_colour colour o) o None) (finite_map.get-insert by_bytes marks cid mark q)
+        ∙ put_one (eq_by_cmp (slice_cmp nat_cmp) q cid) mark (finite_map.get marks q) is
+        ∙ sym (finite_map.get-insert by_bytes (marks_in colour marks) cid mark q ∙ ap (λ o. cond (eq_by_cmp (slice_cmp nat_cmp) q cid) (Some mark) o) (get_in marks q)))
 
     in_replace : (mark : Mark) → same_colour colour mark.colour ≡ false → marks_in colour (finite_map.insert marks cid mark) ≡ finite_map.remove (marks_in colour marks) cid
     in_replace mark is = finite_map.same_map by_bytes exact _ _ (λ q.
-      get_in (finite_map.insert marks cid mark) q
-      ∙ ap (λ o. cond (has_colour colour o) o None) (finite_map.get-insert by_bytes marks cid mark q)
-      ∙ put_other (eq_by_cmp (slice_cmp nat_cmp) q cid) mark (finite_map.get marks q) is
-      ∙ sym (finite_map.get-remove by_bytes (marks_in colour marks) cid q ∙ ap (λ o. cond (eq_by_cmp (slice_cmp nat_cmp) q cid) None o) (get_in marks q)))
+        get_in (finite_map.insert marks cid mark) q
+        ∙ ap (λ o. cond (has_colour colour o) o None) (finite_map.get-insert by_bytes marks cid mark q)
+        ∙ put_other (eq_by_cmp (slice_cmp nat_cmp) q cid) mark (finite_map.get marks q) is
+        ∙ sym (finite_map.get-remove by_bytes (marks_in colour marks) cid q ∙ ap (λ o. cond (eq_by_cmp (slice_cmp nat_cmp) q cid) None o) (get_in marks q)))
 
     in_remove : marks_in colour (finite_map.remove marks cid) ≡ finite_map.remove (marks_in colour marks) cid
     in_remove = finite_map.same_map by_bytes exact _ _ (λ q.
-      get_in (finite_map.remove marks cid) q
-      ∙ ap (λ o. cond (has_colour colour o) o None) (finite_map.get-remove by_bytes marks cid q)
-      ∙ take_one (eq_by_cmp (slice_cmp nat_cmp) q cid) (finite_map.get marks q)
-      ∙ sym (finite_map.get-remove by_bytes (marks_in colour marks) cid q ∙ ap (λ o. cond (eq_by_cmp (slice_cmp nat_cmp) q cid) None o) (get_in marks q)))
+        get_in (finite_map.remove marks cid) q
+        ∙ ap (λ o. cond (has_colour colour o) o None) (finite_map.get-remove by_bytes marks cid q)
+        ∙ take_one (eq_by_cmp (slice_cmp nat_cmp) q cid) (finite_map.get marks q)
+        ∙ sym (finite_map.get-remove by_bytes (marks_in colour marks) cid q ∙ ap (λ o. cond (eq_by_cmp (slice_cmp nat_cmp) q cid) None o) (get_in marks q)))
 
 positive : (marks : CidMap Mark) (cid : List ℕ) → is_some (finite_map.get marks cid) ≡ true → 0 < finite_map.len marks
 positive marks cid is = ⊎_elim
@@ -164,7 +164,7 @@ module _ (colour : Colour) (marks : CidMap Mark) where
   pub count_of_none : ((cid : List ℕ) → option_map (λ mark. mark.colour) (finite_map.get marks cid) ≢ Some colour) → count_in colour marks ≡ 0
   count_of_none none =
       ap finite_map.len (finite_map.same_map by_bytes exact (marks_in colour marks) finite_map.empty (λ q.
-        get_in colour marks q ∙ nothing (finite_map.get marks q) (λ is. none q (some_has (finite_map.get marks q) is)) ∙ sym (finite_map.get-empty (slice_cmp nat_cmp) q)))
+      get_in colour marks q ∙ nothing (finite_map.get marks q) (λ is. none q (some_has (finite_map.get marks q) is)) ∙ sym (finite_map.get-empty (slice_cmp nat_cmp) q)))
       ∙ finite_map.len-empty (slice_cmp nat_cmp) Mark
 
 -- there are some of a colour that a mark has

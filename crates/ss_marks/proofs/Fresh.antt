@@ -75,10 +75,10 @@ grown_sound m m' sound rows kept vacant greys live out limit index in_heads in_l
       distinct = λ a b q x y. sound.distinct a b q (subst (λ xs. HasCid xs a q) rows x) (subst (λ xs. HasCid xs b q) rows y);
       index = subst (λ xs. Indexes xs m'.index) (sym rows) index;
       vacant = subst (λ xs. IsStack (IsVacant xs) m'.links.items m'.vacant.len m'.vacant.top) (sym rows)
-        (subst (λ (x : Stack). IsStack (IsVacant old) m'.links.items x.len x.top) (sym vacant)
+          (subst (λ (x : Stack). IsStack (IsVacant old) m'.links.items x.len x.top) (sym vacant)
           (same_stack (IsVacant old) (IsVacant old) m.links.items m'.links.items (λ k v. v) (λ k v. kept k v.within) m.vacant.len m.vacant.top sound.vacant));
       greys = subst (λ xs. IsStack (IsGrey xs) m'.links.items m'.greys.len m'.greys.top) (sym rows)
-        (subst (λ (x : Stack). IsStack (IsGrey old) m'.links.items x.len x.top) (sym greys)
+          (subst (λ (x : Stack). IsStack (IsGrey old) m'.links.items x.len x.top) (sym greys)
           (same_stack (IsGrey old) (IsGrey old) m.links.items m'.links.items (λ k g. g) (λ k g. kept k (coloured_within old k (live_of _ Grey g))) m.greys.len m.greys.top sound.greys));
       live = live ∙ sound.live ∙ sym (ap (λ xs. finite_map.len (marks_of xs)) rows);
       grey = ap (λ (x : Stack). x.len) greys ∙ sound.grey ∙ sym (ap (λ xs. count_in Grey (marks_of xs)) rows);

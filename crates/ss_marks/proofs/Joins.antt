@@ -53,8 +53,7 @@ module _ (f : ℕ → Option ℕ) (heads below : List ℕ) (slot above : ℕ) (c
   pointer_last_link some is = subst (λ x. IsLast (λ r. f r ≡ Some slot) (above - 1) x) (sym (pointer_link heads below slot above some)) (chained.next (above - 1) slot is)
 
 module _ (slots : ℕ → Option ℕ) (heads below : List ℕ) (slot row above : ℕ) (is_above : IsAbove heads below slot row above)
-  (slot_in : slot < length heads) (row_in : row < length below) (is : slots row ≡ Some slot) where
-
+    (slot_in : slot < length heads) (row_in : row < length below) (is : slots row ≡ Some slot) where
   module _ (chained : IsChained (without_row row slots) heads below) where
     member : 0 < above → without_row row slots (above - 1) ≡ Some slot
     member = is_above.member (without_row row slots) chained
@@ -104,9 +103,9 @@ module _ (slots : ℕ → Option ℕ) (heads below : List ℕ) (slot row above :
         (λ s other. ap (λ xs. get_or xs s 0) top ∙ read_other b heads slot (row + 1) s (λ e. other (eqb_zero above e)))
         (λ some. ap (λ xs. get_or xs (above - 1) 0) link ∙ else_here b below₁ (above - 1) (row + 1) (ne_eqb above 0 (omega arith)) (omega arith))
         (ap (λ xs. get_or xs row 0) link ∙ else_other b below₁ (above - 1) (row + 1) row (λ e same. omega (arith, is_above.higher (eqb_some above e)))
-          ∙ ap (λ xs. get_or xs row 0) first' ∙ get_or-set_same below row P 0 row_in)
+        ∙ ap (λ xs. get_or xs row 0) first' ∙ get_or-set_same below row P 0 row_in)
         (λ r other apart. ap (λ xs. get_or xs r 0) link ∙ else_other b below₁ (above - 1) (row + 1) r (λ e. apart (eqb_some above e))
-          ∙ ap (λ xs. get_or xs r 0) first' ∙ get_or-set_other below row r P 0 other)
+        ∙ ap (λ xs. get_or xs r 0) first' ∙ get_or-set_other below row r P 0 other)
         (λ z. now_last (length below) (omega arith) (pointer_last_head (without_row row slots) heads below slot above chained slot_in z))
         (λ some. now_last (above - 1) (omega (arith, is_above.higher some)) (pointer_last_link (without_row row slots) heads below slot above chained slot_in some (member some)))
         (some_last (P ≤ row) (λ n _ old. below_row n old))
@@ -126,9 +125,9 @@ module _ (slots : ℕ → Option ℕ) (heads below : List ℕ) (slot row above :
       none = λ r from to at. ⊎_elim
           (λ (e : r ≡ row). none-some slot (sym (gone slots row) ∙ subst (λ x. without_row row slots x ≡ Some slot) e at))
           (λ (e : r ≢ row). let was : slots r ≡ Some slot = sym (left slots row r e) ∙ at in ⊎_elim
-            (λ (l : r < row). next.none r from l was)
-            (λ (l : row ≤ r). let stops = is_above.stops in old.none r (omega arith) to was)
-            (cases_lt r row))
+          (λ (l : r < row). next.none r from l was)
+          (λ (l : row ≤ r). let stops = is_above.stops in old.none r (omega arith) to was)
+          (cases_lt r row))
           (cases_eq r row);
     }
 

@@ -127,9 +127,8 @@ same_mark_at rows rows' q distinct distinct' to from = go (finite_map.get (marks
       e' ∙ sym (mark_of_row rows distinct m.row q m.colour (ap (λ (row : Row). row.cid) (sym same) ∙ at.cid) (ap (λ (row : Row). row.colour) (sym same) ∙ at.colour))
 
 module _ (rows rows' : List Row) (r : ℕ) (cid : List ℕ) (distinct : AreDistinct rows) (distinct' : AreDistinct rows')
-  (others : (k : ℕ) → k ≢ r → row_at rows' k ≡ row_at rows k)
-  (was : (q : List ℕ) → HasCid rows r q → q ≡ cid) (now : (q : List ℕ) → HasCid rows' r q → q ≡ cid) where
-
+    (others : (k : ℕ) → k ≢ r → row_at rows' k ≡ row_at rows k)
+    (was : (q : List ℕ) → HasCid rows r q → q ≡ cid) (now : (q : List ℕ) → HasCid rows' r q → q ≡ cid) where
   -- other CIDs keep their marks
   elsewhere : (q : List ℕ) → q ≢ cid → finite_map.get (marks_of rows') q ≡ finite_map.get (marks_of rows) q
   elsewhere q other = same_mark_at rows rows' q distinct distinct'
@@ -156,8 +155,9 @@ module _ (rows rows' : List Row) (r : ℕ) (cid : List ℕ) (distinct : AreDisti
         ⊎_elim
         (λ (z : m.row ≡ r). absurd (true≢false (sym at.live ∙ ap is_some (ap (λ x. (row_at rows' x).colour) z ∙ vacant))))
         (λ (z : m.row ≢ r). let old = others m.row z in
-          absurd (z (distinct m.row r cid (record { live = ap (λ (row : Row). is_some row.colour) (sym old) ∙ at.live; is = ap (λ (row : Row). row.cid) (sym old) ∙ at.is ∙ same }) has)))
+        absurd (z (distinct m.row r cid (record { live = ap (λ (row : Row). is_some row.colour) (sym old) ∙ at.live; is = ap (λ (row : Row). row.cid) (sym old) ∙ at.is ∙ same }) has)))
         (cases_eq m.row r)
+
     each : (q : List ℕ) → finite_map.get (marks_of rows') q ≡ cond (eq_cid q cid) None (finite_map.get (marks_of rows) q)
     each q = elim (eq_cid q cid) as (λ b. eq_cid q cid ≡ b → finite_map.get (marks_of rows') q ≡ cond b None (finite_map.get (marks_of rows) q)) [
       | true ↦ λ e. gone q (eq_cid-true q cid e) (finite_map.get (marks_of rows') q) refl

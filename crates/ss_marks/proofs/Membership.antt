@@ -44,19 +44,18 @@ module _ (rows rows' : List Row) (r : ℕ) (others : (k : ℕ) → k ≢ r → r
 
 -- a vacant row has a CID that no row had, and is white
 module _ (rows rows' : List Row) (r : ℕ) (cid : List ℕ) (others : (k : ℕ) → k ≢ r → row_at rows' k ≡ row_at rows k)
-  (was : (row_at rows r).colour ≡ None) (is : (row_at rows' r).cid ≡ cid) (white : (row_at rows' r).colour ≡ Some White)
-  (distinct : AreDistinct rows) (absent : (k : ℕ) → HasCid rows k cid → ⊥) where
-
+    (was : (row_at rows r).colour ≡ None) (is : (row_at rows' r).cid ≡ cid) (white : (row_at rows' r).colour ≡ Some White)
+    (distinct : AreDistinct rows) (absent : (k : ℕ) → HasCid rows k cid → ⊥) where
   pub added_distinct : AreDistinct rows'
   added_distinct a b q x y = ⊎_elim
       (λ (ea : a ≡ r). ⊎_elim
-        (λ (eb : b ≡ r). ea ∙ sym eb)
-        (λ (eb : b ≢ r). absurd (absent b (subst (λ p. HasCid rows b p) (sym (subst (λ k. HasCid rows' k q) ea x).is ∙ is) (has_still rows rows' r others b q eb y))))
-        (cases_eq b r))
+      (λ (eb : b ≡ r). ea ∙ sym eb)
+      (λ (eb : b ≢ r). absurd (absent b (subst (λ p. HasCid rows b p) (sym (subst (λ k. HasCid rows' k q) ea x).is ∙ is) (has_still rows rows' r others b q eb y))))
+      (cases_eq b r))
       (λ (ea : a ≢ r). ⊎_elim
-        (λ (eb : b ≡ r). absurd (absent a (subst (λ p. HasCid rows a p) (sym (subst (λ k. HasCid rows' k q) eb y).is ∙ is) (has_still rows rows' r others a q ea x))))
-        (λ (eb : b ≢ r). distinct a b q (has_still rows rows' r others a q ea x) (has_still rows rows' r others b q eb y))
-        (cases_eq b r))
+      (λ (eb : b ≡ r). absurd (absent a (subst (λ p. HasCid rows a p) (sym (subst (λ k. HasCid rows' k q) eb y).is ∙ is) (has_still rows rows' r others a q ea x))))
+      (λ (eb : b ≢ r). distinct a b q (has_still rows rows' r others a q ea x) (has_still rows rows' r others b q eb y))
+      (cases_eq b r))
       (cases_eq a r)
 
   pub added_marks : marks_of rows' ≡ finite_map.insert (marks_of rows) cid (record { row = r; colour = White })
@@ -98,7 +97,7 @@ added_sound m m' sound r cid others was is white absent links greys live out lim
       index = index;
       vacant = subst (λ x. IsStack (IsVacant new) x.items m'.vacant.len m'.vacant.top) (sym links) vacant;
       greys = subst (λ x. IsStack (IsGrey new) m'.links.items x.len x.top) (sym greys)
-        (subst (λ x. IsStack (IsGrey new) x.items m.greys.len m.greys.top) (sym links)
+          (subst (λ x. IsStack (IsGrey new) x.items m.greys.len m.greys.top) (sym links)
           (added_greys old new r cid others was is white sound.distinct absent m.links.items m.greys.len m.greys.top sound.greys));
       live = omega (arith, live, sound.live, added_len old new r cid others was is white sound.distinct absent);
       grey = ap (λ x. x.len) greys ∙ sound.grey ∙ sym (added_count old new r cid others was is white sound.distinct absent Grey refl);
@@ -114,9 +113,8 @@ added_sound m m' sound r cid others was is white absent links greys live out lim
 
 -- a white row is vacant
 module _ (rows rows' : List Row) (r : ℕ) (cid : List ℕ) (others : (k : ℕ) → k ≢ r → row_at rows' k ≡ row_at rows k)
-  (has : HasCid rows r cid) (white : (row_at rows r).colour ≡ Some White) (gone : (row_at rows' r).colour ≡ None) (long : length rows' ≡ length rows)
-  (distinct : AreDistinct rows) where
-
+    (has : HasCid rows r cid) (white : (row_at rows r).colour ≡ Some White) (gone : (row_at rows' r).colour ≡ None) (long : length rows' ≡ length rows)
+    (distinct : AreDistinct rows) where
   still : (k : ℕ) (q : List ℕ) → HasCid rows' k q → HasCid rows k q
   still k q x = has_still rows rows' r others k q (λ e. not_live _ gone (subst (λ y. HasCid rows' y q) e x).live) x
 
@@ -141,7 +139,7 @@ module _ (rows rows' : List Row) (r : ℕ) (cid : List ℕ) (others : (k : ℕ) 
   pub removed_greys : (links links' : List ℕ) (n top : ℕ) → ((k : ℕ) → k ≢ r → get_or links' k 0 ≡ get_or links k 0) → IsStack (IsGrey rows) links n top → IsStack (IsGrey rows') links' n top
   removed_greys links links' n top kept stack =
       let apart : (k : ℕ) → IsGrey rows k → k ≢ r = λ k grey e. let is : Some White ≡ Some Grey = sym white ∙ subst (λ x. IsGrey rows x) e grey in
-        true≢false (ap (same_colour White) (same_Some White Grey is)) in
+      true≢false (ap (same_colour White) (same_Some White Grey is)) in
       same_stack (IsGrey rows) (IsGrey rows') links links' (λ k grey. grey_still rows rows' r others k (apart k grey) grey) (λ k grey. kept k (apart k grey)) n top stack
 
   pub removed_vacant : (links links' : List ℕ) (n n' top : ℕ) → r < length rows → n' ≡ n + 1 → ((k : ℕ) → k ≢ r → get_or links' k 0 ≡ get_or links k 0) → get_or links' r 0 ≡ top
@@ -168,9 +166,9 @@ removed_sound m m' sound r cid others has white gone long links greys live out l
       distinct = removed_distinct old new r cid others has white gone long sound.distinct;
       index = subst (λ f. IsChained f m'.index.heads.items m'.index.below.items) (sym (slots_without new old r (length m'.index.heads.items) gone (λ k e. sym (others k e)))) index;
       vacant = subst (λ x. IsStack (IsVacant new) m'.links.items m'.vacant.len x) (sym top)
-        (removed_vacant old new r cid others has white gone long sound.distinct m.links.items m'.links.items m.vacant.len m'.vacant.len m.vacant.top in' vacant kept link sound.vacant);
+          (removed_vacant old new r cid others has white gone long sound.distinct m.links.items m'.links.items m.vacant.len m'.vacant.len m.vacant.top in' vacant kept link sound.vacant);
       greys = subst (λ x. IsStack (IsGrey new) m'.links.items x.len x.top) (sym greys)
-        (removed_greys old new r cid others has white gone long sound.distinct m.links.items m'.links.items m.greys.len m.greys.top kept sound.greys);
+          (removed_greys old new r cid others has white gone long sound.distinct m.links.items m'.links.items m.greys.len m.greys.top kept sound.greys);
       live = omega (arith, live, sound.live, removed_len old new r cid others has white gone long sound.distinct);
       grey = ap (λ x. x.len) greys ∙ sound.grey ∙ sym (removed_count old new r cid others has white gone long sound.distinct Grey refl);
       out = out ∙ sound.out ∙ sym (removed_count old new r cid others has white gone long sound.distinct Out refl);

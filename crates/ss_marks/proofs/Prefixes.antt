@@ -7,7 +7,6 @@ use Rattle.ss_marks.specs.declared.row.Row.{Row}
 use Rattle.ss_marks.specs.Rows.{no_row, row_at, slot_of}
 use Rattle.ss_marks.specs.Index.{slot_at, without_row}
 
-
 -- past a prefix there is no row
 take_past : (rows : List Row) (i r : ℕ) → i ≤ r → row_at (take i rows) r ≡ no_row
 take_past rows i r past = get_or_past (take i rows) r no_row (omega (arith, length-take i rows))
@@ -39,6 +38,6 @@ one_vacant rows i n vacant = λ k r. (each r) k where
   each : (r : ℕ) → slot_at (take i rows) n r ≡ slot_at (take (i + 1) rows) n r
   each r = ⊎_elim
       (λ (e : r ≡ i). slot_past rows i r n (omega arith)
-        ∙ sym (slot_before rows (i + 1) r n (omega arith) ∙ ap (λ x. slot_at rows n x) e ∙ ap (λ o. option_map (λ _. slot_of (row_at rows i).cid n) o) vacant))
+      ∙ sym (slot_before rows (i + 1) r n (omega arith) ∙ ap (λ x. slot_at rows n x) e ∙ ap (λ o. option_map (λ _. slot_of (row_at rows i).cid n) o) vacant))
       (λ (e : r ≢ i). next_same rows i n r e)
       (cases_eq r i)

@@ -15,8 +15,7 @@ module _ (heads below : List ℕ) (slot above : ℕ) where
   pointer_link some = ap (λ b. cond b (get_or heads slot 0) (get_or below (above - 1) 0)) (ne_eqb above 0 (omega arith))
 
 module _ (heads below : List ℕ) (slot row above last : ℕ) (falling : IsFalling heads below) (slot_in : slot < length heads)
-  (come : HasCome heads below slot row above last) (more : row + 1 < last) where
-
+    (come : HasCome heads below slot row above last) (more : row + 1 < last) where
   within : last ≤ length below
   within = ⊎_elim
       (λ (z : above ≡ 0). omega (arith, come.reads, pointer_head heads below slot above z, falling.tops slot))
@@ -26,10 +25,10 @@ module _ (heads below : List ℕ) (slot row above last : ℕ) (falling : IsFalli
   member : (slots : ℕ → Option ℕ) → IsChained slots heads below → 0 < last → slots (last - 1) ≡ Some slot
   member slots chained some = ⊎_elim
       (λ (z : above ≡ 0). let reads : last ≡ get_or heads slot 0 = come.reads ∙ pointer_head heads below slot above z in
-        subst (λ x. slots (x - 1) ≡ Some slot) (sym reads) ((chained.head slot slot_in).here (omega arith)))
+      subst (λ x. slots (x - 1) ≡ Some slot) (sym reads) ((chained.head slot slot_in).here (omega arith)))
       (λ (z : above ≢ 0). let some : 0 < above = omega arith in
-        let reads : last ≡ get_or below (above - 1) 0 = come.reads ∙ pointer_link heads below slot above some in
-        subst (λ x. slots (x - 1) ≡ Some slot) (sym reads) ((chained.next (above - 1) slot (come.member slots chained some)).here (omega arith)))
+      let reads : last ≡ get_or below (above - 1) 0 = come.reads ∙ pointer_link heads below slot above some in
+      subst (λ x. slots (x - 1) ≡ Some slot) (sym reads) ((chained.next (above - 1) slot (come.member slots chained some)).here (omega arith)))
       (cases_eq above 0)
 
   pub come_next : HasCome heads below slot row last (get_or below (last - 1) 0)
@@ -46,9 +45,9 @@ module _ (rows : List Row) (heads below cid : List ℕ) (last : ℕ) (chained : 
         none = λ r low has. ⊎_elim
             (λ (l : last ≤ r). missed.none r l has)
             (λ (l : r < last). ⊎_elim
-              (λ (e : r ≡ last - 1). other (subst (λ x. (row_at rows x).cid ≡ cid) e has.is))
-              (λ (e : r ≢ last - 1). next.none r low (omega arith) (slot_at-has rows (length heads) r cid has))
-              (cases_eq r (last - 1)))
+            (λ (e : r ≡ last - 1). other (subst (λ x. (row_at rows x).cid ≡ cid) e has.is))
+            (λ (e : r ≢ last - 1). next.none r low (omega arith) (slot_at-has rows (length heads) r cid has))
+            (cases_eq r (last - 1)))
             (⊎_elim (λ (l : r < last). inr l) (λ (l : last ≤ r). inl l) (cases_lt r last));
       }
 

@@ -129,11 +129,11 @@ whitened_sound m m' sound rows capacity links index vacant greys live out limit 
     record {
       distinct = subst (λ xs. AreDistinct xs) (sym rows) (white_distinct old sound.distinct);
       index = subst (λ x. Indexes m'.rows.items x) (sym index)
-        (subst (λ f. IsChained f m.index.heads.items m.index.below.items) (λ i k. (white_slots old (length m.index.heads.items) k ∙ ap (λ xs. slot_at xs (length m.index.heads.items) k) (sym rows)) i) sound.index);
+          (subst (λ f. IsChained f m.index.heads.items m.index.below.items) (λ i k. (white_slots old (length m.index.heads.items) k ∙ ap (λ xs. slot_at xs (length m.index.heads.items) k) (sym rows)) i) sound.index);
       vacant = subst (λ xs. IsStack (IsVacant xs) m'.links.items m'.vacant.len m'.vacant.top) (sym rows)
-        (subst (λ x. IsStack (IsVacant (whitened_rows old)) m'.links.items x.len x.top) (sym vacant)
+          (subst (λ x. IsStack (IsVacant (whitened_rows old)) m'.links.items x.len x.top) (sym vacant)
           (subst (λ x. IsStack (IsVacant (whitened_rows old)) x.items m.vacant.len m.vacant.top) (sym links)
-            (same_stack (IsVacant old) (IsVacant (whitened_rows old)) m.links.items m.links.items (white_vacant old) (λ _ _. refl) m.vacant.len m.vacant.top sound.vacant)));
+          (same_stack (IsVacant old) (IsVacant (whitened_rows old)) m.links.items m.links.items (white_vacant old) (λ _ _. refl) m.vacant.len m.vacant.top sound.vacant)));
       greys = subst (λ n. IsStack (IsGrey m'.rows.items) m'.links.items n m'.greys.top) (sym greys) tt;
       live = live ∙ sound.live ∙ sym (ap (λ xs. finite_map.len (marks_of xs)) rows ∙ white_len_from old 0);
       grey = greys ∙ sym (ap (λ xs. count_in Grey (marks_of xs)) rows ∙ count_of_none Grey (marks_of (whitened_rows old)) (none_other old Grey refl));

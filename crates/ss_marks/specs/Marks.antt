@@ -1,15 +1,10 @@
 -- What contracts see of marks: which CIDs have a row, and its colour. Colours are those of tri-colour marking, with one more for
 -- what is being read.
 use Rattle.std.specs.Prelude.{◌≡◌, ◌≢◌, ℕ, Bool, true, false, List, Option, None, Some, option_map}
-use Rattle.std.specs.Ordering.{nat_cmp}
-use Rattle.std.specs.Cmp.Lexicographic.{slice_cmp}
 use Rattle.std.specs.FinMap as finite_map
+pub use Rattle.ss_cid.specs.Maps.{CidMap}
 use Rattle.ss_marks.specs.declared.colour.Colour.{Colour}
 use Rattle.ss_marks.specs.declared.colour.Colour.TheVariants.{White, Grey, Out, Black}
-
--- a finite map from CIDs, in the order of their bytes
-abbrev pub CidMap : Type 0 → Type 0
-CidMap X = finite_map.FinMap (slice_cmp nat_cmp) X
 
 -- the row of a CID, and its colour
 pub record Mark : Type 0 where

@@ -69,9 +69,15 @@ fn table_full_3(rt: HostRuntime) -> Result<(), Fail> {
 fn rows_added_removed_and_added_again(rt: HostRuntime) -> Result<(), Fail> {
     let mut marks = Marks::new(rt.alloc(), 3);
     for number in 0..3 {
-        assert_eq!(rt; row_for(&mut marks, cid(&rt, 0x55, number))?, u32::from(number));
+        assert_eq!(rt;
+            row_for(&mut marks, cid(&rt, 0x55, number))?,
+            u32::from(number)
+        );
     }
-    assert_eq!(rt; row_for(&mut marks, cid(&rt, 0x55, 3)), Err(RowFault::TableFull { rows: 4 }));
+    assert_eq!(rt;
+        row_for(&mut marks, cid(&rt, 0x55, 3)),
+        Err(RowFault::TableFull { rows: 4 })
+    );
     remove(&mut marks, &cid(&rt, 0x55, 1));
     assert_eq!(rt; marks.row(&cid(&rt, 0x55, 1)), None);
     assert_eq!(rt; row_for(&mut marks, cid(&rt, 0x55, 3))?, 1);

@@ -18,7 +18,7 @@ returns-in-Some-clause-vacant c =
     let under : c.pop.new.self.top ≡ get_or links top 0 = pop.2 ∙ ap (λ r. get_or links r 0) pop.0 in
     subst (λ x. IsStack (IsVacant rows') links c.pop.new.self.len x) (sym under)
     (popped (IsVacant rows) (IsVacant rows') links c.args.vacant.now.len c.pop.new.self.len top pop.1
-      (λ k vacant other. record {
-        within = omega (arith, vacant.within, length-set rows number c.args.row);
-        is = ap (λ (row : Row). row.colour) (get_or-set_other rows number k c.args.row no_row (λ e. other (e ∙ pop.0))) ∙ vacant.is;
-      }) c.requires.vacant)
+    (λ k vacant other. record {
+      within = omega (arith, vacant.within, length-set rows number c.args.row);
+      is = ap (λ (row : Row). row.colour) (get_or-set_other rows number k c.args.row no_row (λ e. other (e ∙ pop.0))) ∙ vacant.is;
+    }) c.requires.vacant)

@@ -24,6 +24,9 @@ loop-i-preserved c =
     elim c.if-is_some.branch [
       | then-is_some w ↦ subst P (sym w.index-is) (w.insert.ensures.slots ∙ c.loop-i.invariant.0, w.insert.ensures.below ∙ c.loop-i.invariant.1, w.insert.ensures.index)
       | else-is_some w ↦ let vacant = none_from_is_some (row_at rows i).colour (ap (λ (row : Row). is_some row.colour) (get_or_default rows i no_row c.index-rows-i.result in') ∙ sym c.is_some.ensures ∙ w.if-is_some.false) in
-          subst P (sym w.index-is) (c.loop-i.invariant.0, c.loop-i.invariant.1,
-          subst (λ f. IsChained f old.heads.items old.below.items) (one_vacant rows i (length old.heads.items) vacant) c.loop-i.invariant.2)
+          subst P (sym w.index-is) (
+            c.loop-i.invariant.0,
+            c.loop-i.invariant.1,
+            subst (λ f. IsChained f old.heads.items old.below.items) (one_vacant rows i (length old.heads.items) vacant) c.loop-i.invariant.2,
+          )
     ]

@@ -37,4 +37,4 @@ loop-last-preserved c =
     let in' : last - 1 < length below = omega arith in
     subst (λ x. HasMissed rows c.args.cid.now (length heads) (length below) x) (sym (get_or_read below (last - 1) _ in' c.index-last-in-loop-last.ensures 0))
     (missed_next rows heads below c.args.cid.now last c.requires c.loop-last.invariant some
-      (λ same. false≢true (sym c.if-eq.false ∙ c.eq.ensures ∙ (bytes_eq-Decides c.index-rows-last.result.cid c.args.cid.now).1 (ap (λ row. row.cid) read ∙ same))))
+    (λ same. false≢true (sym c.if-eq.false ∙ c.eq.ensures ∙ (bytes_eq-Decides c.index-rows-last.result.cid c.args.cid.now).1 (ap (λ row. row.cid) read ∙ same))))

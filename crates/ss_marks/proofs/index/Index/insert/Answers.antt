@@ -20,8 +20,8 @@ returns-clause-index c =
     ∙ ap Some (ap (λ r. slot_of r.cid (length heads)) (sym read) ∙ ap (slot_of (get_or rows row c.index-rows-row.result).cid) (sym count) ∙ sym c.slot_of-slot.ensures.value) in
     let in' : slot < length heads = subst (λ n. slot < n) count c.slot_of-slot.ensures.within in
     let done = inserted (slot_at rows (length heads)) heads below slot row c.above-above.result c.above-above.ensures in' c.requires.within here c.requires.index
-      c.set_pointer.new.self.heads.items (set below row c.pointer.result) c.set_pointer.new.self.below.items
-      (ap (set below row) c.pointer.ensures) c.set_pointer.ensures.heads c.set_pointer.ensures.below in
+    c.set_pointer.new.self.heads.items (set below row c.pointer.result) c.set_pointer.new.self.below.items
+    (ap (set below row) c.pointer.ensures) c.set_pointer.ensures.heads c.set_pointer.ensures.below in
     subst (λ n. IsChained (slot_at rows n) c.set_pointer.new.self.heads.items c.set_pointer.new.self.below.items)
     (sym (ap length c.set_pointer.ensures.heads ∙ length_heads c.above-above.result heads slot (row + 1)))
     done

@@ -28,8 +28,8 @@ returns-clause-index c =
     let in' = c.requires.index.within row slot here in
     let link : c.index-below.result.now ≡ get_or below row 0 = get_or_read below row _ in'.0 c.index-below.ensures 0 in
     let done = removed (slot_at rows (length heads)) heads below slot row c.above-above.result c.above-above.ensures in'.1 in'.0 here c.requires.index
-      c.set_pointer.new.self.heads.items c.set_pointer.new.self.below.items
-      (rw (← link) c.set_pointer.ensures.heads) (rw (← link) c.set_pointer.ensures.below) in
+    c.set_pointer.new.self.heads.items c.set_pointer.new.self.below.items
+    (rw (← link) c.set_pointer.ensures.heads) (rw (← link) c.set_pointer.ensures.below) in
     subst (λ n. IsChained (without_row row (slot_at rows n)) c.set_pointer.new.self.heads.items c.set_pointer.new.self.below.items)
     (sym (ap length c.set_pointer.ensures.heads ∙ length_heads c.above-above.result heads slot c.index-below.result.now))
     done

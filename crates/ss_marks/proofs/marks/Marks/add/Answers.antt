@@ -17,7 +17,7 @@ insert-requires-clause-index c =
     let row = c.place_row-row.result in
     subst (λ xs. IsChained (without_row row (slot_at xs n)) m.index.heads.items m.index.below.items) (sym c.as_slice-2.ensures.value)
     (subst (λ f. IsChained f m.index.heads.items m.index.below.items)
-      (slots_without m.rows.items c.place_row-row.new.rows.items row n c.place_row-row.ensures.was c.place_row-row.ensures.others) c.self.invariant.index)
+    (slots_without m.rows.items c.place_row-row.new.rows.items row n c.place_row-row.ensures.was c.place_row-row.ensures.others) c.self.invariant.index)
 
 pub invariant_of-self : goal.invariant_of-self
 invariant_of-self c =
@@ -39,8 +39,8 @@ returns-clause-added c =
     let placed = c.place_row-row.ensures in
     let view = c.self.view_is in
     let marks = added_marks m.rows.items c.place_row-row.new.rows.items c.place_row-row.result c.args.cid placed.others placed.was (ap (λ (x : Row). x.cid) placed.at) (ap (λ (x : Row). x.colour) placed.at)
-      c.self.invariant.distinct (absent_here m c.args.self.now c.self.view_is c.self.invariant c.args.cid c.requires.absent)
-      ∙ ap (λ (t : MarkTable). finite_map.insert t.marks c.args.cid (record { row = c.place_row-row.result; colour = White })) view in
+    c.self.invariant.distinct (absent_here m c.args.self.now c.self.view_is c.self.invariant c.args.cid c.requires.absent)
+    ∙ ap (λ (t : MarkTable). finite_map.insert t.marks c.args.cid (record { row = c.place_row-row.result; colour = White })) view in
     let spare_is = ap (λ (t : MarkTable). t.spare) view in
     let spare : length c.insert.new.self.heads.items - (m.live + 1) ≡ c.args.self.now.spare - 1 = omega (arith, c.insert.ensures.slots) in
     λ i. record { marks = marks i; spare = spare i; limit = ap (λ (t : MarkTable). t.limit) view i }

@@ -58,8 +58,8 @@ invariant_of-self-2 c =
     let top : c.pop.new.self.top ≡ get_or m.links.items m.greys.top 0 = pop.2 ∙ ap (λ xs. get_or xs row 0) c.as_slice.ensures.value ∙ ap (λ r. get_or m.links.items r 0) pop.0 in
     recoloured_sound m _ c.self.invariant row cid Grey Out re refl refl (λ k other. refl) refl refl refl refl
     (subst (λ x. IsStack (IsGrey (with_items m.rows c.recolour.new.rows).items) m.links.items c.pop.new.self.len x) (sym top)
-      (popped (IsGrey m.rows.items) (IsGrey (with_items m.rows c.recolour.new.rows).items) m.links.items m.greys.len c.pop.new.self.len m.greys.top pop.1
-        (λ k grey other. still_grey m.rows.items _ row cid Grey Out re k (λ e. other (e ∙ pop.0)) grey) c.self.invariant.greys))
+    (popped (IsGrey m.rows.items) (IsGrey (with_items m.rows c.recolour.new.rows).items) m.links.items m.greys.len c.pop.new.self.len m.greys.top pop.1
+    (λ k grey other. still_grey m.rows.items _ row cid Grey Out re k (λ e. other (e ∙ pop.0)) grey) c.self.invariant.greys))
     (omega (arith, pop.1)) (omega arith)
 
 pub returns : goal.returns

@@ -65,7 +65,7 @@ returns c = λ cid is.
     let items = recoloured_items m.rows c.recolour.new.rows c.as_mut_slice.result.now row None c.as_mut_slice.ensures.value c.recolour.ensures in
     let vacated = vacated_from m.rows.items _ row here items in
     let marks = removed_marks m.rows.items _ row cid vacated.others (has_here m t view row cid is) (colour_here m t view row White c.requires) vacated.gone vacated.long sound.distinct
-      ∙ ap (λ (t : MarkTable). finite_map.remove t.marks cid) view in
+    ∙ ap (λ (t : MarkTable). finite_map.remove t.marks cid) view in
     let spare_is = ap (λ (t : MarkTable). t.spare) view in
     let spare : length c.remove.new.self.heads.items - (m.live - 1) ≡ t.spare + 1 = omega (arith, c.remove.ensures.slots, sound.used, sound.rows) in
     λ i. record { marks = marks i; spare = spare i; limit = ap (λ (t : MarkTable). t.limit) view i }

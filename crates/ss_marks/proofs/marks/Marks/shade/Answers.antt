@@ -51,7 +51,7 @@ invariant_of-self c =
     recoloured_sound m _ c.self.invariant row c.requires.cid White Grey re refl (ap length links ∙ length-set m.links.items row m.greys.top)
     (λ k other. ap (λ xs. get_or xs k 0) links ∙ get_or-set_other m.links.items row k m.greys.top 0 other) refl refl refl refl
     (subst (λ x. IsStack (IsGrey (with_items m.rows c.recolour.new.rows).items) (with_items m.links c.push.new.links).items c.push.new.self.len x) (sym c.push.ensures.top)
-      (grey_pushed m.rows.items _ row c.requires.cid White re refl m.links.items _ m.greys.len c.push.new.self.len m.greys.top in' links c.push.ensures.len c.self.invariant.greys))
+    (grey_pushed m.rows.items _ row c.requires.cid White re refl m.links.items _ m.greys.len c.push.new.self.len m.greys.top in' links c.push.ensures.len c.self.invariant.greys))
     (omega (arith, c.push.ensures.len)) refl
 
 pub returns-clause-white : goal.returns-clause-white

@@ -5,7 +5,8 @@
 //! CIDs share a row ([`Marks::each_row_has_one_cid`]). Which rows are grey is determined by the colours.
 //!
 //! The one contract: each call changes that map at one CID, or whitens it whole, and nothing else of it. Only
-//! [`Marks::reserve`] takes memory; every other call succeeds.
+//! [`Marks::reserve`] takes memory; every other call succeeds. Lemmas for callers, CID by CID, are in
+//! `proofs/Using.antt`.
 //!
 //! # How it is laid out
 //!
@@ -29,7 +30,8 @@
 //! | slot | 4 |
 //! | sum | 86 |
 //!
-//! A table that grows takes an eighth more than it had, so a live row costs at most 97 bytes where no row was removed.
+//! A table that grows takes an eighth more than it had, so a live row costs at most 97 bytes if no row was removed. While
+//! it grows, the old and the new look-up exist side by side.
 #![tactic(auto)]
 
 mod colour;

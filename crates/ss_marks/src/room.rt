@@ -10,7 +10,7 @@ use crate::row::Row;
 use crate::stack::Stack;
 use std::alloc::AllocError;
 
-/// Places a row where one is vacant, or behind the last one, and tells its number.
+/// Places a row where one is vacant, or else after the last one. The result is its number.
 pub(crate) fn place_row(rows: &mut Vec<Row>, links: &[u32], vacant: &mut Stack, row: Row) -> u32
     requires vacant { IsStack (IsVacant rows.old.items) links.now vacant.old.len vacant.old.top }
     requires links { length rows.old.items ≤ length links.now }
@@ -38,7 +38,7 @@ pub(crate) fn place_row(rows: &mut Vec<Row>, links: &[u32], vacant: &mut Stack, 
     }
 }
 
-/// Makes room for as many rows as there are to be slots, and a look-up with these. Out of memory, the look-up is the old one.
+/// Makes room for `slots` rows, and a look-up with so many slots. If it runs out of memory, the look-up is the old one.
 pub(crate) fn grow(
     rows: &mut Vec<Row>,
     links: &mut Vec<u32>,
@@ -60,6 +60,7 @@ pub(crate) fn grow(
 {
     let alloc = *rows.allocator();
     rows.reserve_exact(slots - rows.len())?;
+    links.reserve_exact(slots.saturating_sub(links.len()))?;
     links.resize(slots, 0)?;
     *index = Index::build(alloc, rows.as_slice(), slots)?;
     Ok(())

@@ -1,5 +1,7 @@
+use crate::row::Row;
 use crate::{Colour, Marks, RowFault};
 use ss_cid::{Cid, HASH_SHA2_256};
+use std::mem::size_of;
 use std::process::Abort;
 use std::test::Fail;
 
@@ -54,6 +56,13 @@ fn end(marks: &mut Marks, cid: &Cid, read: bool) {
             }
         }
     }
+}
+
+/// With its links and its slot a row then takes 86 bytes.
+#[test]
+fn a_row_takes_74_bytes(rt: HostRuntime) -> Result<(), Fail> {
+    assert_eq!(rt; size_of::<Row>(), 74);
+    Ok(())
 }
 
 #[test]

@@ -1,5 +1,5 @@
 -- A decimal number of a script, as std's `parse` reads it.
-use Rattle.std.proofs.Common.{◌≡◌, ℕ, ◌<◌, ◌^◌, Bool, true, false, cond, List, [], ◌∷◌, Some, None, Result, Ok, Err, length, refl, sym, ap, ◌∙◌, arith, ◌&&◌, not, zero, suc}
+use Rattle.std.proofs.Common.{◌≡◌, ℕ, ◌<◌, ◌^◌, Bool, true, false, cond, List, [], ◌∷◌, Result, Ok, Err, length, refl, sym, ap, ◌∙◌, arith, ◌&&◌, not, zero, suc}
 use Rattle.std.specs.Prelude.{nat_lt, ◌==◌, ◌||◌, slice_index}
 use Rattle.std.specs.List.{list_all}
 use Rattle.std.specs.Char.{is_ascii_digit}
@@ -32,7 +32,7 @@ numeral_is_ascii bs is = IsAscii-from_digits bs (own.to bs is)
 pub number_text : (bs : List ℕ) → is_number bs ≡ true → IsUtf8 bs
 number_text bs is = IsUtf8-from_ascii bs (numeral_is_ascii bs (number_digits bs is))
 
--- what is printed of a number is of the form of a number
+-- a printed number is a number
 pub number_printed : (n : ℕ) → n < 2 ^ 64 → is_number (decimal n) ≡ true
 number_printed n small = and_all _ _ _ (lt-ltb 0 _ (decimal_nonempty n small)) (digits_are (decimal n) ∙ digits_decimal own n small) (first_digit n small)
   where

@@ -1,5 +1,5 @@
 -- Lists that are read element by element, to the end or to the first that is at fault.
-use Rattle.std.proofs.Common.{◌≡◌, List, [], ◌∷◌, ◌++◌, Result, Ok, Err, refl, sym, ap, append_assoc}
+use Rattle.std.proofs.Common.{◌≡◌, List, ◌++◌, Result, Ok, Err, refl, sym, ap, append_assoc}
 use Rattle.ss_cid.specs.Steps.{◌>>=◌}
 
 -- the elements so far and those that are left

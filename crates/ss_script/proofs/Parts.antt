@@ -1,23 +1,30 @@
 -- Text that is written part by part.
 use Rattle.std.proofs.Common.{◌≡◌, ◌<◌, ◌+◌, ℕ, List, [], ◌∷◌, ◌++◌, length, take, drop, get_or, subst, sym, ap, ◌∙◌, append_assoc, refl}
-use Rattle.std.specs.Prelude.{Option, Result, Ok, Err, is_err, true}
-use Rattle.std.specs.Io.KnownBytes.{Appends}
+use Rattle.std.specs.Prelude.{Result, Ok, Err, is_err, true}
 use Rattle.std.proofs.lemmas.List.{drop_more, take-append-drop}
 use Rattle.std.proofs.lemmas.Grind.{flat_map-append}
 use Rattle.hex.specs.Hex.{encode_with, encode_lower, lower_digits}
-use Rattle.ss_io.specs.Written.{AppendsFront, PutAppends}
-use Rattle.ss_io.proofs.Told.{Appends-append, AppendsFront-more}
+use Rattle.ss_io.specs.Causes.{HasCause}
+use Rattle.ss_io.specs.declared.sink.Sink.{Ghosts}
+use Rattle.ss_io.proofs.Told.{AppendsFront-more, PutAppends-append}
 use Rattle.ss_script.specs.Text.{number_text, numbers_text}
+use Rattle.ss_script.specs.Writing.{Writes}
 
--- a put failed after a front of its bytes
-pub cut : {E : Type 0} (a b : Option (List ℕ)) (text : List ℕ) (result : Result (Unit {0}) E) → is_err result ≡ true → AppendsFront a b text → PutAppends a b result text
-cut a b text (Ok x) failed wrote = absurd (cc)
-cut a b text (Err e) failed wrote = wrote
+module _ {K E : Type 0} {sink : Ghosts K} where
+  -- a part was written, and then the next, or a prefix of it
+  pub after : {a b c : K} {u : Unit {0}} {result : Result (Unit {0}) E} (xs ys : List ℕ) → Writes {E = E} sink a b (Ok u) xs → Writes sink b c result ys → Writes sink a c result (xs ++ ys)
+  after {a = a} {b = b} {c = c} {result = result} xs ys first second = record {
+    bytes = PutAppends-append (sink.written a) (sink.written b) (sink.written c) xs ys result first.bytes second.bytes;
+    cause = subst (λ n. HasCause n (sink.faults c) result) first.cause.kept second.cause;
+  }
 
--- a part was written, and then a front of the next
-pub front_after : (a b c : Option (List ℕ)) (xs ys : List ℕ) → Appends a b xs → AppendsFront b c ys → AppendsFront a c (xs ++ ys)
-front_after a b c xs ys wrote (front, rest, split, grows) =
-    (xs ++ front, rest, ap (λ l. xs ++ l) split ∙ sym (append_assoc xs front rest), Appends-append a b c xs front wrote grows)
+  -- a part failed before the rest came
+  pub cut : {F : Type 0} {a b : K} {e : F} (result : Result (Unit {0}) E) (xs ys : List ℕ) → is_err result ≡ true → Writes sink a b (Err e) xs → Writes sink a b result (xs ++ ys)
+  cut (Ok x) xs ys failed part = absurd (cc)
+  cut {a = a} {b = b} (Err e) xs ys failed part = record {
+    bytes = AppendsFront-more (sink.written a) (sink.written b) xs ys part.bytes;
+    cause = record { later = part.cause.later; failed = part.cause.failed; kept = tt };
+  }
 
 -- the numbers before an index, the one there and those after it
 numbers_at : (numbers : List ℕ) (i : ℕ) → i < length numbers → numbers_text numbers ≡ numbers_text (take i numbers) ++ (number_text (get_or numbers i 0) ++ numbers_text (drop (i + 1) numbers))
@@ -25,13 +32,9 @@ numbers_at numbers i within =
     sym (ap numbers_text (ap (λ l. take i numbers ++ l) (sym (drop_more numbers i 0 within)) ∙ take-append-drop i numbers))
     ∙ flat_map-append number_text (take i numbers) (get_or numbers i 0 ∷ drop (i + 1) numbers)
 
--- a front of the number at an index was written
-pub number_front : (a b c : Option (List ℕ)) (label numbers : List ℕ) (i : ℕ) → i < length numbers → Appends a b (label ++ numbers_text (take i numbers)) → AppendsFront b c (number_text (get_or numbers i 0)) → AppendsFront a c (label ++ numbers_text numbers)
-number_front a b c label numbers i within before now =
-    let front = AppendsFront-more a c _ (numbers_text (drop (i + 1) numbers)) (front_after a b c _ _ before now) in
-    let same : label ++ numbers_text numbers ≡ ((label ++ numbers_text (take i numbers)) ++ number_text (get_or numbers i 0)) ++ numbers_text (drop (i + 1) numbers) =
-    ap (λ l. label ++ l) (numbers_at numbers i within) ∙ simp append_assoc in
-    subst (AppendsFront a c) (sym same) front
+-- a label and numbers, cut at one of them
+pub cut_at : (label numbers : List ℕ) (i : ℕ) → i < length numbers → label ++ numbers_text numbers ≡ (label ++ numbers_text (take i numbers)) ++ (number_text (get_or numbers i 0) ++ numbers_text (drop (i + 1) numbers))
+cut_at label numbers i within = ap (λ l. label ++ l) (numbers_at numbers i within) ∙ simp append_assoc
 
 encode_more : (table xs ys : List ℕ) → encode_with table (xs ++ ys) ≡ encode_with table xs ++ encode_with table ys
 unfolding encode_with
@@ -42,13 +45,7 @@ encode_more table (x ∷ xs) ys = rw (encode_more table xs ys) refl
 pub digits_of_parts : (xs ys : List ℕ) → encode_lower (xs ++ ys) ≡ encode_lower xs ++ encode_lower ys
 digits_of_parts xs ys = encode_more lower_digits xs ys
 
--- a front of the digits of the next piece was written
-pub digits_front : (a b c : Option (List ℕ)) (bytes done rest piece more : List ℕ) → bytes ≡ done ++ rest → rest ≡ piece ++ more → Appends a b (encode_lower done) → AppendsFront b c (encode_lower piece) → AppendsFront a c (encode_lower bytes)
-digits_front a b c bytes done rest piece more left parts wrote now =
-    let same : encode_lower bytes ≡ encode_lower done ++ (encode_lower piece ++ encode_lower more) =
-    ap encode_lower (left ∙ ap (λ l. done ++ l) parts) ∙ digits_of_parts done (piece ++ more) ∙ ap (λ l. encode_lower done ++ l) (digits_of_parts piece more) in
-    subst (AppendsFront a c) (sym same) (front_after a b c _ _ wrote (AppendsFront-more b c _ _ now))
-
--- the digits of the next piece were written
-pub digits_more : (a b c : Option (List ℕ)) (done piece : List ℕ) → Appends a b (encode_lower done) → Appends b c (encode_lower piece) → Appends a c (encode_lower (done ++ piece))
-digits_more a b c done piece wrote now = subst (Appends a c) (sym (digits_of_parts done piece)) (Appends-append a b c _ _ wrote now)
+-- the digits of bytes of which some are written, then a piece, and then more
+pub digits_at : (bytes done rest piece more : List ℕ) → bytes ≡ done ++ rest → rest ≡ piece ++ more → encode_lower bytes ≡ encode_lower done ++ (encode_lower piece ++ encode_lower more)
+digits_at bytes done rest piece more left parts =
+    ap encode_lower (left ∙ ap (λ l. done ++ l) parts) ∙ digits_of_parts done (piece ++ more) ∙ ap (λ l. encode_lower done ++ l) (digits_of_parts piece more)

@@ -16,6 +16,8 @@ mod line;
 mod numbers;
 mod pieces;
 mod script;
+#[cfg(test)]
+mod tests;
 mod text;
 mod views;
 

@@ -2,17 +2,15 @@
 
 ghost use Rattle.std.specs.Prelude.{◌++◌};
 ghost use Rattle.std.specs.Fmt.{decimal};
-ghost use Rattle.ss_io.specs.Causes.{HasCause};
-ghost use Rattle.ss_io.specs.Written.{PutAppends};
+ghost use Rattle.ss_script.specs.Writing.{Writes};
 ghost use Rattle.ss_script.specs.Text.{number_text, numbers_text};
 
 use itoa::Buffer;
 use ss_io::{Failed, Sink};
 
-/// Writes a label, and then each number behind a space.
+/// Writes a label, and then each number after a space.
 pub fn put_numbers<K: Sink>(sink: &mut K, label: &[u8], numbers: &[u64]) -> Result<(), Failed>
-    ensures bytes { PutAppends (K.written sink.old) (K.written sink.new) result (label.now ++ numbers_text numbers.now) }
-    ensures cause { HasCause (K.faults sink.old) (K.faults sink.new) result }
+    ensures { Writes K.Sink sink.old sink.new result (label.now ++ numbers_text numbers.now) }
 {
     sink.put(label)?;
     for number in numbers {
@@ -21,10 +19,9 @@ pub fn put_numbers<K: Sink>(sink: &mut K, label: &[u8], numbers: &[u64]) -> Resu
     Ok(())
 }
 
-// Writes a number behind a space.
+// Writes a number after a space.
 pub(crate) fn put_number<K: Sink>(sink: &mut K, number: u64) -> Result<(), Failed>
-    ensures bytes { PutAppends (K.written sink.old) (K.written sink.new) result (number_text number) }
-    ensures cause { HasCause (K.faults sink.old) (K.faults sink.new) result }
+    ensures { Writes K.Sink sink.old sink.new result (number_text number) }
 {
     sink.put(b" ")?;
     put_decimal(sink, number)
@@ -32,8 +29,7 @@ pub(crate) fn put_number<K: Sink>(sink: &mut K, number: u64) -> Result<(), Faile
 
 // Writes a number.
 pub(crate) fn put_decimal<K: Sink>(sink: &mut K, number: u64) -> Result<(), Failed>
-    ensures bytes { PutAppends (K.written sink.old) (K.written sink.new) result (decimal number) }
-    ensures cause { HasCause (K.faults sink.old) (K.faults sink.new) result }
+    ensures { Writes K.Sink sink.old sink.new result (decimal number) }
 {
     let mut digits = Buffer::new();
     sink.put(digits.format(number).as_bytes())

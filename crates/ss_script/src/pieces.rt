@@ -5,7 +5,7 @@ ghost use Rattle.std.specs.Iterator.{YieldsFirstRef, item_count};
 
 use std::marker::Model;
 
-/// The pieces of some bytes between separators, from the front: one more than there are separators.
+/// The pieces of some bytes between separators, in order: one more than there are separators.
 #[derive(Drop)]
 pub struct Pieces<'a> {
     rest: Option<&'a [u8]>,
@@ -52,7 +52,7 @@ impl<'a> Iterator for Pieces<'a> {
     }
 }
 
-// The first piece, and what is behind its separator.
+// The first piece, and what follows its separator.
 fn split_first(bytes: &[u8], separator: u8) -> (&[u8], Option<&[u8]>)
     ensures { slice_split (λ b. b == separator) bytes.now ≡ result.0.now ∷ option_map_or (λ r. slice_split (λ b. b == separator) r.now) result.1 [] }
 {

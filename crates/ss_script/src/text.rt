@@ -2,8 +2,7 @@
 
 ghost use Rattle.std.specs.Prelude.{◌≡◌, ◌≤◌, ◌++◌, IfErr, codes, length};
 ghost use Rattle.hex.specs.Hex.{encode_lower};
-ghost use Rattle.ss_io.specs.Causes.{HasCause};
-ghost use Rattle.ss_io.specs.Written.{PutAppends};
+ghost use Rattle.ss_script.specs.Writing.{Writes};
 ghost use Rattle.ss_script.specs.Text.{bytes_text, view_text, client_text, call_text, view_reply_text, item_fault_number, put_reply_text, get_reply_text, answer_text, entry_text};
 
 use crate::numbers::{put_decimal, put_number, put_numbers};
@@ -31,8 +30,7 @@ pub fn write_entry<K: Sink>(
     place: u64,
     entry: &Entry,
 ) -> Result<(), PrintFault>
-    ensures bytes { PutAppends (K.written sink.old) (K.written sink.new) result (entry_text place entry.now) }
-    ensures cause { HasCause (K.faults sink.old) (K.faults sink.new) result }
+    ensures written { Writes K.Sink sink.old sink.new result (entry_text place entry.now) }
     ensures fault { IfErr result (λ fault. fault ≡ PrintFault.WriteFault) }
 {
     match put_entry(sink, place, entry) {
@@ -42,8 +40,7 @@ pub fn write_entry<K: Sink>(
 }
 
 fn put_entry<K: Sink>(sink: &mut K, place: u64, entry: &Entry) -> Result<(), Failed>
-    ensures bytes { PutAppends (K.written sink.old) (K.written sink.new) result (entry_text place entry.now) }
-    ensures cause { HasCause (K.faults sink.old) (K.faults sink.new) result }
+    ensures { Writes K.Sink sink.old sink.new result (entry_text place entry.now) }
 {
     put_decimal(sink, place)?;
     put_client(sink, entry.client)?;
@@ -55,8 +52,7 @@ fn put_entry<K: Sink>(sink: &mut K, place: u64, entry: &Entry) -> Result<(), Fai
 }
 
 fn put_client<K: Sink>(sink: &mut K, client: u8) -> Result<(), Failed>
-    ensures bytes { PutAppends (K.written sink.old) (K.written sink.new) result (client_text client) }
-    ensures cause { HasCause (K.faults sink.old) (K.faults sink.new) result }
+    ensures { Writes K.Sink sink.old sink.new result (client_text client) }
 {
     if client == COMPACTOR {
         sink.put(b" c")
@@ -66,8 +62,7 @@ fn put_client<K: Sink>(sink: &mut K, client: u8) -> Result<(), Failed>
 }
 
 fn put_view<K: Sink>(sink: &mut K, view: u32) -> Result<(), Failed>
-    ensures bytes { PutAppends (K.written sink.old) (K.written sink.new) result (view_text view) }
-    ensures cause { HasCause (K.faults sink.old) (K.faults sink.new) result }
+    ensures { Writes K.Sink sink.old sink.new result (view_text view) }
 {
     if view == NO_VIEW {
         sink.put(b" -")
@@ -77,8 +72,7 @@ fn put_view<K: Sink>(sink: &mut K, view: u32) -> Result<(), Failed>
 }
 
 fn put_call<K: Sink>(sink: &mut K, call: &Call) -> Result<(), Failed>
-    ensures bytes { PutAppends (K.written sink.old) (K.written sink.new) result (call_text call.now) }
-    ensures cause { HasCause (K.faults sink.old) (K.faults sink.new) result }
+    ensures { Writes K.Sink sink.old sink.new result (call_text call.now) }
 {
     match call {
         Call::OpenView => sink.put(b" open"),
@@ -88,16 +82,14 @@ fn put_call<K: Sink>(sink: &mut K, call: &Call) -> Result<(), Failed>
 }
 
 fn put_name_and_view<K: Sink>(sink: &mut K, name: &[u8], view: u32) -> Result<(), Failed>
-    ensures bytes { PutAppends (K.written sink.old) (K.written sink.new) result (name.now ++ view_text view) }
-    ensures cause { HasCause (K.faults sink.old) (K.faults sink.new) result }
+    ensures { Writes K.Sink sink.old sink.new result (name.now ++ view_text view) }
 {
     sink.put(name)?;
     put_view(sink, view)
 }
 
 fn put_answer<K: Sink>(sink: &mut K, answer: &Answer) -> Result<(), Failed>
-    ensures bytes { PutAppends (K.written sink.old) (K.written sink.new) result (answer_text answer.now) }
-    ensures cause { HasCause (K.faults sink.old) (K.faults sink.new) result }
+    ensures { Writes K.Sink sink.old sink.new result (answer_text answer.now) }
 {
     match answer {
         Answer::View(reply) => put_view_reply(sink, *reply),
@@ -107,8 +99,7 @@ fn put_answer<K: Sink>(sink: &mut K, answer: &Answer) -> Result<(), Failed>
 }
 
 fn put_view_reply<K: Sink>(sink: &mut K, reply: ViewReply) -> Result<(), Failed>
-    ensures bytes { PutAppends (K.written sink.old) (K.written sink.new) result (view_reply_text reply) }
-    ensures cause { HasCause (K.faults sink.old) (K.faults sink.new) result }
+    ensures { Writes K.Sink sink.old sink.new result (view_reply_text reply) }
 {
     match reply {
         ViewReply::Opened(view) => put_numbers(sink, b"opened", &[u64::from(view)]),
@@ -117,8 +108,7 @@ fn put_view_reply<K: Sink>(sink: &mut K, reply: ViewReply) -> Result<(), Failed>
 }
 
 fn put_put_reply<K: Sink>(sink: &mut K, reply: PutReply) -> Result<(), Failed>
-    ensures bytes { PutAppends (K.written sink.old) (K.written sink.new) result (put_reply_text reply) }
-    ensures cause { HasCause (K.faults sink.old) (K.faults sink.new) result }
+    ensures { Writes K.Sink sink.old sink.new result (put_reply_text reply) }
 {
     match reply {
         PutReply::BadView => sink.put(b"bad-view"),
@@ -148,8 +138,7 @@ fn item_fault_number(kind: CborKind) -> u64
 }
 
 fn put_get_reply<K: Sink>(sink: &mut K, reply: &GetReply) -> Result<(), Failed>
-    ensures bytes { PutAppends (K.written sink.old) (K.written sink.new) result (get_reply_text reply.now) }
-    ensures cause { HasCause (K.faults sink.old) (K.faults sink.new) result }
+    ensures { Writes K.Sink sink.old sink.new result (get_reply_text reply.now) }
 {
     match reply {
         GetReply::BadView => sink.put(b"bad-view"),
@@ -161,16 +150,14 @@ fn put_get_reply<K: Sink>(sink: &mut K, reply: &GetReply) -> Result<(), Failed>
 }
 
 fn put_found<K: Sink>(sink: &mut K, bytes: &[u8]) -> Result<(), Failed>
-    ensures bytes { PutAppends (K.written sink.old) (K.written sink.new) result (codes "found " ++ bytes_text bytes.now) }
-    ensures cause { HasCause (K.faults sink.old) (K.faults sink.new) result }
+    ensures { Writes K.Sink sink.old sink.new result (codes "found " ++ bytes_text bytes.now) }
 {
     sink.put(b"found ")?;
     put_bytes(sink, bytes)
 }
 
 fn put_bytes<K: Sink>(sink: &mut K, bytes: &[u8]) -> Result<(), Failed>
-    ensures bytes { PutAppends (K.written sink.old) (K.written sink.new) result (bytes_text bytes.now) }
-    ensures cause { HasCause (K.faults sink.old) (K.faults sink.new) result }
+    ensures { Writes K.Sink sink.old sink.new result (bytes_text bytes.now) }
 {
     if bytes.is_empty() {
         sink.put(b"-")
@@ -181,8 +168,7 @@ fn put_bytes<K: Sink>(sink: &mut K, bytes: &[u8]) -> Result<(), Failed>
 
 // Writes the digits of bytes, piece by piece.
 fn put_digits<K: Sink>(sink: &mut K, bytes: &[u8]) -> Result<(), Failed>
-    ensures bytes { PutAppends (K.written sink.old) (K.written sink.new) result (encode_lower bytes.now) }
-    ensures cause { HasCause (K.faults sink.old) (K.faults sink.new) result }
+    ensures { Writes K.Sink sink.old sink.new result (encode_lower bytes.now) }
 {
     let mut rest = bytes;
     while !rest.is_empty() {
@@ -196,8 +182,7 @@ fn put_digits<K: Sink>(sink: &mut K, bytes: &[u8]) -> Result<(), Failed>
 // Writes the digits of a piece.
 fn put_piece<K: Sink>(sink: &mut K, piece: &[u8]) -> Result<(), Failed>
     requires { length piece.now ≤ PIECE_BYTES }
-    ensures bytes { PutAppends (K.written sink.old) (K.written sink.new) result (encode_lower piece.now) }
-    ensures cause { HasCause (K.faults sink.old) (K.faults sink.new) result }
+    ensures { Writes K.Sink sink.old sink.new result (encode_lower piece.now) }
 {
     let mut room = [0u8; 2 * PIECE_BYTES];
     let digits = &mut room[..2 * piece.len()];

@@ -1,10 +1,10 @@
 use Rattle.std.specs.Prelude.{codes}
-use Rattle.ss_io.proofs.Told.{PutAppends-before, PutAppends-append}
 use Rattle.ss_script.specs.Text.{bytes_text}
+use Rattle.ss_script.proofs.Parts.{cut, after}
 use Rattle.ss_script.proofs.text.put_found.Goals as goal
 
-pub returns-in_err-put-clause-bytes : goal.returns-in_err-put-clause-bytes
-returns-in_err-put-clause-bytes g c = PutAppends-before _ _ (codes "found ") (bytes_text c.args.bytes.now) _ c.from_residual.ensures.0 c.in_err-put.ensures.bytes
+pub returns-in_err-put : goal.returns-in_err-put
+returns-in_err-put g c = cut _ (codes "found ") (bytes_text c.args.bytes.now) c.from_residual.ensures.0 (record { bytes = c.in_err-put.ensures.bytes; cause = c.in_err-put.ensures.cause })
 
-pub returns-clause-bytes : goal.returns-clause-bytes
-returns-clause-bytes g c = PutAppends-append _ _ _ (codes "found ") (bytes_text c.args.bytes.now) _ c.in_ok-put.ensures.bytes c.put_bytes.ensures.bytes
+pub returns : goal.returns
+returns g c = after (codes "found ") (bytes_text c.args.bytes.now) (record { bytes = c.in_ok-put.ensures.bytes; cause = c.in_ok-put.ensures.cause }) c.put_bytes.ensures

@@ -139,7 +139,7 @@ fn reading(alloc: Global, disk: MemoryDisk) -> Result<(u8, String), Fail> {
 #[test]
 fn ends_that_fail(rt: HostRuntime) -> Result<(), Fail> {
     // Two reads take the script, and a third finds its end.
-    let comment = "#".repeat(rt.alloc(), 9000)?;
+    let comment = "#".repeat(rt.alloc(), 70_000)?;
     let script = format!(in rt.alloc(); "0 open\n{comment}")?;
     let line = "1 0 1 open = opened 0\n";
     for call in 0..4 {

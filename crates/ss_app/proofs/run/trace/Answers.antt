@@ -1,4 +1,5 @@
-use Rattle.std.proofs.Common.{refl, ◌∙◌, ap, Err}
+use Rattle.std.proofs.Common.{refl, ◌∙◌, ap, Err, true≢false}
+use Rattle.std.specs.Prelude.{is_ok}
 use Rattle.ss_app.proofs.Apart.{stands_apart}
 use Rattle.ss_app.proofs.Endings.{input_refused, script_refused, store_refused, asks_for, traced, traced_refused}
 use Rattle.ss_app.proofs.Steps.{begun_story, at_most}
@@ -9,7 +10,7 @@ use Rattle.ss_app.proofs.run.trace.Goals as goal
 pub returns-in-Err : goal.returns-in-Err
 returns-in-Err g c =
     let said = rw c.from.ensures at c.finish.ensures in
-    input_refused g.D.Disk _ _ _ _ _ _ _ _ _ _ _ c.in-Err.fault (same_disk g.D.Disk c.args.disk.now) (λ is. c.read_all.ensures.read_fault (c.in-Err.is ∙ ap Err is)) (λ is. c.read_all.ensures.too_long (c.in-Err.is ∙ ap Err is)) said
+    input_refused g.D.Disk _ _ _ _ _ _ _ _ _ _ _ c.in-Err.fault (same_disk g.D.Disk c.args.disk.now) (λ is. c.read_all.ensures.failed (c.in-Err.is ∙ ap Err is)) (λ is. c.read_all.ensures.too_long (c.in-Err.is ∙ ap Err is)) said
 
 pub returns-in-Err-read_script : goal.returns-in-Err-read_script
 returns-in-Err-read_script g c =
@@ -28,10 +29,10 @@ pub returns-then-calls : goal.returns-then-calls
 returns-then-calls g c =
     let took = rw (← c.as_slice.ensures.value) at c.in-Ok.ensures.all.0 in
     let made = rw c.if-calls.true at c.make_calls-calls.ensures _ (begun_story g.D.Disk _ _ _ _ c.«open».ensures.goes c.in-Ok-open.ensures.serves c.in-Ok-open.ensures.known c.in-Ok-open.ensures.sure) in
-    traced_refused g.D.Disk _ _ _ _ _ _ _ _ _ _ _ c.as_slice.result.now _ _ took c.in-Ok.ensures.all.1 c.in-Ok.ensures.sound (at_most _ _ SCRIPT_BYTES c.as_slice.ensures.len c.in-Ok.ensures.within) c.in-Ok-read_script.ensures made refl
+    traced_refused g.D.Disk _ _ _ _ _ _ _ _ _ _ _ c.as_slice.result.now _ _ took c.in-Ok.ensures.all.1 (c.in-Ok.ensures.no_fault (λ is. true≢false (ap is_ok is))) (at_most _ _ SCRIPT_BYTES c.as_slice.ensures.len c.in-Ok.ensures.within) c.in-Ok-read_script.ensures made refl
 
 pub returns : goal.returns
 returns g c =
     let took = rw (← c.as_slice.ensures.value) at c.in-Ok.ensures.all.0 in
     let made = rw c.if-calls.false at c.make_calls-calls.ensures _ (begun_story g.D.Disk _ _ _ _ c.«open».ensures.goes c.in-Ok-open.ensures.serves c.in-Ok-open.ensures.known c.in-Ok-open.ensures.sure) in
-    traced g.D.Disk _ _ _ _ _ _ _ _ _ _ _ _ _ c.as_slice.result.now _ _ took c.in-Ok.ensures.all.1 c.in-Ok.ensures.sound (at_most _ _ SCRIPT_BYTES c.as_slice.ensures.len c.in-Ok.ensures.within) c.in-Ok-read_script.ensures made c.finish-2.ensures
+    traced g.D.Disk _ _ _ _ _ _ _ _ _ _ _ _ _ c.as_slice.result.now _ _ took c.in-Ok.ensures.all.1 (c.in-Ok.ensures.no_fault (λ is. true≢false (ap is_ok is))) (at_most _ _ SCRIPT_BYTES c.as_slice.ensures.len c.in-Ok.ensures.within) c.in-Ok-read_script.ensures made c.finish-2.ensures

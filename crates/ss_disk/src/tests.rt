@@ -179,6 +179,8 @@ fn said<R: Files<File = File> + Drop>(
 fn a_folder_serves_one_disk(rt: HostRuntime) -> Result<(), Fail> {
     let mut first = FolderDisk::new(rt.alloc(), rt.clone()?, ".")?;
     let mut second = FolderDisk::new(rt.alloc(), rt.clone()?, ".")?;
+    // Another test may have left it.
+    let _ = fs::remove_file(&rt, "cold-a.log");
     first.size(1)?;
     assert_eq!(rt; second.size(1), Err(DiskFault));
     assert_eq!(rt; second.size(2), Err(DiskFault));

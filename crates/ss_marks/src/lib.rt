@@ -24,13 +24,13 @@
 //! | what | bytes |
 //! |---|---|
 //! | CID | 73 |
-//! | colour, or that the row is vacant | 1 |
+//! | colour, or that the row is vacant | 2 |
 //! | link of the greys or of the vacant rows | 4 |
 //! | link of its slot's chain | 4 |
 //! | slot | 4 |
-//! | sum | 86 |
+//! | sum | 87 |
 //!
-//! A table that grows takes an eighth more than it had, so a live row costs at most 97 bytes if no row was removed. While
+//! A table that grows takes an eighth more than it had, so a live row costs at most 98 bytes if no row was removed. While
 //! it grows, the old and the new look-up exist side by side.
 #![tactic(auto)]
 

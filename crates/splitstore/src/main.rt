@@ -8,7 +8,7 @@ use ss_io::{StdSink, StdSource};
 use std::alloc::AllocError;
 use std::env;
 use std::fmt::Display;
-use std::io::{self, BufWriter, Write};
+use std::io::{self, BufWriter, ErrorKind, Write};
 use std::process::ExitCode;
 use std::rt::Env;
 
@@ -56,8 +56,12 @@ fn report<F: Display>(rt: &impl Eprint, what: &str, failure: Option<&F>) {
 // The words behind the program's name; none where they are not text.
 fn words(rt: &(impl Env + AllocGlobal)) -> Result<Vec<String>, AllocError> {
     let mut words = Vec::new(rt.alloc());
-    let Ok(all) = env::args(rt) else {
-        return Ok(words);
+    let all = match env::args(rt) {
+        Ok(all) => all,
+        Err(error) => match error.kind() {
+            ErrorKind::OutOfMemory => return Err(AllocError),
+            _ => return Ok(words),
+        },
     };
     for word in all.skip(1) {
         words.push(word)?;

@@ -1,0 +1,12 @@
+pub mod Steps
+pub mod Rows
+pub mod Firsts
+pub mod Tipsets
+pub mod TipsetLaws
+pub mod Kept
+pub mod Reached
+pub mod Fronts
+pub mod LinkArrays
+pub mod Headers
+pub mod Few
+pub mod Followed

@@ -1,0 +1,42 @@
+-- Fetching a block: an identity CID's is its digest, which needs no store; another's is what is kept for it.
+use Rattle.std.specs.Prelude.{◌≡◌, ℕ, ◌+◌, ◌-◌, ◌^◌, ◌≤◌, ◌==◌, min, ◌||◌, if◌then◌else◌, Bool, true, false, List, Option, Some, ⊤}
+use Rattle.std.specs.FinMap as map
+use Rattle.ss_cid.specs.Cid.{hash_of, digest_of}
+use Rattle.ss_cid.specs.Maps.{Kept}
+use Rattle.ss_chain.specs.declared.fetched.Fetched.{Fetched}
+use Rattle.ss_chain.specs.declared.fetched.Fetched.TheVariants.{Found, NotFound, Fault}
+
+unfoldable pub is_identity : List ℕ → Bool
+is_identity cid = hash_of cid == 0
+
+-- the block of a CID, if there is one
+unfoldable pub fetched : Kept → List ℕ → Option (List ℕ)
+fetched kept cid = if is_identity cid then Some (digest_of cid) else map.get kept cid
+
+-- whether a CID has a block, where the set holds those of stored blocks
+abbrev pub is_known : (List ℕ → Bool) → List ℕ → Bool
+is_known holds cid = is_identity cid || holds cid
+
+-- NotFound is answered exactly where the CID is not known
+abbrev pub NotFoundUnless : Bool → Fetched → Type 0
+NotFoundUnless known NotFound = known ≡ false
+NotFoundUnless known _ = known ≡ true
+
+-- a block that was found is fetch's, where the map is told
+abbrev pub IsFetched : Option Kept → List ℕ → Fetched → Type 0
+IsFetched (Some kept) cid (Found block) = fetched kept cid ≡ Some block
+IsFetched _ cid _ = ⊤
+
+-- a block that was found under an identity CID is its digest
+abbrev pub IsDigest : List ℕ → Fetched → Type 0
+IsDigest cid (Found block) = is_identity cid ≡ true → block ≡ digest_of cid
+IsDigest cid _ = ⊤
+
+-- the count of faults is greater than before, or stands at the last value of its type
+abbrev pub Rose : ℕ → ℕ → Type 0
+Rose before now = min (before + 1) (2 ^ 64 - 1) ≤ now
+
+-- the count of faults rose in a fetch that answered Fault, and stayed in every other
+abbrev pub HasCause : ℕ → ℕ → Fetched → Type 0
+HasCause before now Fault = (before ≤ now) × Rose before now
+HasCause before now _ = now ≡ before

@@ -24,6 +24,10 @@ LENGTHS = (8, 792)
 
 MOST_OVER_PLAIN, MOST_OVER_LMDB = 1.3, 2
 LEAST_OPENED, MOST_MEMORY = 300_000, 160
+MOST_OPENING_OVER_PLAIN, MOST_OPENING_OVER_BEFORE = 1.5, 0.6
+PIECE, MORE_READS = 65_536, 10
+# another build of the program, whose opening is measured beside this one's
+BEFORE = os.environ.get("BEFORE")
 
 TIME = "/usr/bin/time"
 RAW = bytes.fromhex("01551220")
@@ -225,10 +229,37 @@ def memory_of(store, folder):
         return 1024 * int(file.read())
 
 
-def opening(folder, count, store, empty):
-    full, none = best([trace(os.devnull, store), trace(os.devnull, empty)])
+def calls_of_opening(folder, store):
+    """How often opening a store calls the system, by the name of the call: reads at an offset, syncs, sizes."""
+    path = os.path.join(folder, "calls")
+    watched = "trace=pread64,fdatasync,fsync,fstat,statx,newfstatat"
+    run(["strace", "-f", "-y", "-e", watched, "-o", path, PROGRAM, "trace"], os.devnull, store)
+    with open(path, encoding="utf-8", errors="replace") as file:
+        lines = [line for line in file if "hot-a.log>" in line]
+    return {name: sum(f" {name}(" in line or line.startswith(f"{name}(") for line in lines)
+            for name in ("pread64", "fdatasync", "fsync", "fstat", "statx", "newfstatat")}
+
+
+def opening(folder, count, store, empty, plain):
+    commands = [trace(os.devnull, store), trace(os.devnull, empty)]
+    peers = {"plain": ([plain, "open", store], [plain, "open", empty])} if plain else {}
+    if BEFORE:
+        peers["the build before"] = ([BEFORE, "trace"], [BEFORE, "trace"])
+    for full, none in peers.values():
+        commands += [(full, os.devnull, store), (none, os.devnull, empty)]
+    full, none, *others = best(commands)
     print(f"{count:,} blocks opened: {shown(full - none)} (full {shown(full)}, empty {shown(none)}), "
           f"{count / (full - none):,.0f} blocks a second (wanted: at least {LEAST_OPENED:,})")
+    wanted = {"plain": MOST_OPENING_OVER_PLAIN, "the build before": MOST_OPENING_OVER_BEFORE} if count >= 100_000 else {}
+    for place, name in enumerate(peers):
+        took = others[2 * place] - others[2 * place + 1]
+        most = f" (wanted: at most {wanted[name]})" if name in wanted else ""
+        print(f"  {name} {shown(took)}; ratio {(full - none) / took:.2f}{most}")
+    if shutil.which("strace"):
+        size = os.path.getsize(os.path.join(store, "hot-a.log"))
+        calls = ", ".join(f"{name} {number}" for name, number in calls_of_opening(folder, store).items() if number)
+        print(f"  calls on the hot log of {size:,} bytes: {calls} (wanted: one sync and one size, and at most "
+              f"{-(-size // PIECE) + MORE_READS} reads)")
     each = (memory_of(store, folder) - memory_of(empty, folder)) / count
     wanted = f" (wanted: at most {MOST_MEMORY})" if count >= 100_000 else ""
     print(f"  memory {each:.0f} bytes a block{wanted}", flush=True)
@@ -245,7 +276,7 @@ def main(folder):
         blocks = made(count)
         store, stores = filled(folder, peers, blocks)
         gets(folder, peers, blocks, store, stores)
-        opening(folder, count, store, empty)
+        opening(folder, count, store, empty, peers.get("plain"))
 
 
 if __name__ == "__main__":

@@ -2,8 +2,9 @@
 //
 //     PEER put FOLDER BLOCKS BATCH   makes a store in the folder and puts the blocks, BATCH at a time, each batch synced
 //     PEER get FOLDER BLOCKS         gets each block of the file by its key, in order, and prints `found HEX` for each
+//     PEER open FOLDER               opens the store, and nothing more
 //
-// Each tells on standard error the seconds that this took, without opening and closing the store. A file of blocks holds,
+// The first two tell on standard error the seconds that this took, without opening and closing the store. A file of blocks holds,
 // for each, a CID of 36 bytes, the length of the data in four bytes, the low byte first, and the data.
 #pragma once
 #include <algorithm>
@@ -86,9 +87,11 @@ public:
 };
 
 template <typename Peer> int peer_main(int words, char **word) {
-    need(words >= 4, "put or get, a folder and a file of blocks");
+    need(words >= 3, "put, get or open, a folder, and a file of blocks");
     std::string what = word[1], folder = word[2];
     Peer peer(folder, what == "put");
+    if (what == "open") return 0;
+    need(words >= 4, "a file of blocks");
     std::string bytes = whole(word[3]);
     std::vector<Block> blocks = blocks_of(bytes);
     if (what == "put") {

@@ -1,56 +1,35 @@
--- The endings of a run.
-use Rattle.std.proofs.Common.{◌≡◌, ◌⊎◌, inl, inr, Bool, true, false, ℕ, ◌≤◌, List, [], ◌++◌, Option, Some, None, Ok, Err, refl, sym, ap, ◌∙◌, subst, length, append_assoc, arith}
+-- The endings of a run of `trace`.
+use Rattle.std.proofs.Common.{◌≡◌, ◌⊎◌, inl, inr, Bool, true, false, ℕ, ◌<◌, ◌≤◌, List, [], ◌++◌, Option, Ok, Err, refl, sym, ap, ◌∙◌, subst, length, append_assoc, arith}
 use Rattle.std.specs.Prelude.{IsTrue}
-use Rattle.ss_io.specs.Written.{AppendsFront}
-use Rattle.ss_script.specs.Text.{text}
-use Rattle.std.specs.Io.KnownBytes.{Appends, Consumes, IsAtEnd}
+use Rattle.std.specs.List.{list_any}
 use Rattle.std.proofs.lemmas.List.{append-nil}
-use Rattle.ss_app.proofs.Appending.{appends_more, front_behind, front_of_more, front_whole}
-use Rattle.ss_io.specs.Causes.{Rose}
+use Rattle.ss_io.specs.Written.{AppendsFront}
 use Rattle.ss_disk.specs.declared.disk.Disk.{Ghosts}
 use Rattle.ss_disk.specs.Disk.{Same}
 use Rattle.ss_disk.specs.Calls.{Goes}
-use Rattle.ss_app.specs.declared.TheConstants.{SCRIPT_BYTES}
+use Rattle.ss_model.specs.State.{State}
+use Rattle.ss_model.specs.declared.call.Entry.{Entry}
+use Rattle.ss_core.specs.declared.split_core.SplitCore.{SplitCore}
+use Rattle.ss_core.specs.StandsFor.{HasState}
+use Rattle.ss_open.specs.declared.fault.OpenFault.{OpenFault}
+use Rattle.ss_open.specs.declared.fault.OpenFault.TheVariants as opening
+use Rattle.ss_open.specs.Opening.{Opened, Opens, HasNoStore}
+use Rattle.ss_open.proofs.Openings.{stands_apart}
 use Rattle.ss_script.specs.declared.line.Line.{Line}
-use Rattle.ss_io.specs.declared.whole.ReadAllFault.{ReadAllFault}
-use Rattle.ss_io.specs.declared.whole.ReadAllFault.TheVariants as input
-use Rattle.ss_script.specs.declared.fault.ScriptFault.{ScriptFault}
-use Rattle.ss_script.specs.declared.fault.ScriptFault.TheVariants.{Bad}
-use Rattle.ss_script.specs.declared.fault.ScriptFault.TheVariants as script_fault
+use Rattle.ss_script.specs.Text.{text}
+use Rattle.ss_app.specs.declared.TheConstants.{SCRIPT_BYTES}
 use Rattle.ss_app.specs.declared.ending.Ending.{Ending}
 use Rattle.ss_app.specs.declared.ending.Ending.TheVariants.{Done, NoMemory, BadScript}
 use Rattle.ss_app.specs.declared.ending.Ending.TheVariants as ends
-use Rattle.ss_app.specs.declared.store.OpenFault.{OpenFault}
-use Rattle.ss_app.specs.declared.store.OpenFault.TheVariants as opening
-use Rattle.ss_app.specs.Ending.{line_of, status_of, ending_of, ending_of_input, ending_of_open}
-use Rattle.ss_app.specs.Input.{IsTooLong}
-use Rattle.ss_app.specs.Opening.{HasNoStore}
+use Rattle.ss_app.specs.Ending.{line_of, status_of, ending_of_open}
+use Rattle.ss_app.specs.History.{IsFulfilled, faults_in, is_refused}
+use Rattle.ss_app.specs.Outcome.{Says, Reads, Traced, CallsMade, HasReason, CountsSource, CountsDisk, IsWhole, AsksFor, IsLegalFrom, IsValidTrace}
 use Rattle.ss_app.specs.Run.{InOrder}
-use Rattle.ss_app.specs.Stands.{StandsFor}
-use Rattle.ss_hot.specs.File.{IsDamagedHalf}
-use Rattle.ss_model.specs.State.{State}
-use Rattle.ss_model.specs.declared.call.Entry.{Entry}
-use Rattle.std.specs.Option.{ForSome}
-use Rattle.std.specs.List.{list_any}
-use Rattle.ss_app.proofs.Still.{same_touches}
+use Rattle.ss_app.specs.World.{Input, World}
+use Rattle.ss_app.proofs.Appending.{front_of_more, front_whole}
 use Rattle.ss_app.proofs.Fulfilled.{fulfilled, no_faults, err_or_ok, oks}
-use Rattle.ss_app.specs.Outcome.{Says, Traced, Made, HasReason, IsWhole, AsksFor, Asks, IsLegalFrom, IsValidTrace}
-use Rattle.ss_app.specs.Room.{IsFulfilled, faults_in, is_refused}
-use Rattle.ss_script.specs.declared.TheConstants.{CLIENTS}
-use Rattle.ss_script.specs.Script.{script_of}
-
--- what was read is what the source had left
-read_whole : (left behind : Option (List ℕ)) (text script : List ℕ) → Consumes left behind text → IsAtEnd behind → left ≡ Some script → text ≡ script
-read_whole None behind text script took ended is = absurd (cc)
-read_whole (Some xs) None text script took ended is = absurd took
-read_whole (Some xs) (Some ys) text script took ended is =
-    let same : xs ≡ script = cc in
-    sym (append-nil text) ∙ ap (λ l. text ++ l) (sym ended) ∙ sym took ∙ same
-
--- what is said behind what was printed
-pub says_behind : (old mid new : Option (List ℕ)) (had was has : ℕ) (printed line : List ℕ) (own status : ℕ) → Appends old mid printed → was ≡ had → Says mid new was has line own status → Says old new had has (printed ++ line) own status
-says_behind old mid new had was has printed line own status wrote sound (inl said) = inl (said.0, appends_more old mid new printed line wrote said.1)
-says_behind old mid new had was has printed line own status wrote sound (inr said) = inr (said.0, subst (λ n. Rose n has) sound said.1, front_behind old mid new printed line wrote said.2)
+use Rattle.ss_app.proofs.Sayings.{says_behind, none_counted}
+use Rattle.ss_app.proofs.Still.{same_disk, same_touches}
 
 is_whole : (ending : Ending) (unprinted : List ℕ) → (ending ≡ Done → unprinted ≡ []) → (ending ≡ Done) ⊎ (ending ≡ NoMemory) → IsWhole ending unprinted
 is_whole ending unprinted whole (inl done) = subst (λ e. IsWhole e unprinted) (sym done) (whole done)
@@ -68,133 +47,135 @@ whole_of_none (ends.Damaged file at) = tt
 whole_of_none (BadScript line kind) = tt
 whole_of_none ends.TooLong = tt
 
--- what the source had left asks for the lines that were read
-pub asks_for : (left behind : Option (List ℕ)) (bytes : List ℕ) (lines : List Line) → Consumes left behind bytes → IsAtEnd behind → length bytes ≤ SCRIPT_BYTES → script_of CLIENTS bytes ≡ Ok lines → ForSome left (λ script. AsksFor script lines)
-asks_for left behind bytes lines took ended short asks script told = subst (λ t. AsksFor t lines) (read_whole left behind bytes script took ended told) (short, asks)
+too_many : (n most : ℕ) → most < n → n ≤ most → ⊥
+too_many n most more few = omega (arith, more, few)
 
-module _ {D : Type 0} (disk : Ghosts D) (was is : D) (left behind : Option (List ℕ)) (before now : ℕ) (old new : Option (List ℕ)) (had has status : ℕ) where
+module _ {D : Type 0} (disk : Ghosts D) (old new : World D) (status : ℕ) where
   -- a run that made no call
-  pub no_call : (ending : Ending) → Goes disk Same was is → HasReason disk was is left behind before now [] ending
-      → ((script : List ℕ) (lines : List Line) → IsValidTrace disk was is left before now had has script lines → (ending ≡ NoMemory) ⊎ ((ending ≡ Done) × IsFulfilled []))
-      → Says old new had has (line_of ending) (status_of ending) status → Traced disk was is left behind before now old new had has status
-  no_call ending goes reason valid said = record {
+  no_call : (ending : Ending) → Goes disk Same old.disk new.disk → HasReason disk old new [] ending → CountsSource ending old.source.faults new.source.faults → CountsDisk ending [] (disk.faults old.disk) (disk.faults new.disk)
+      → ((script : List ℕ) (lines : List Line) → IsValidTrace disk old new script lines → (ending ≡ NoMemory) ⊎ ((ending ≡ Done) × IsFulfilled []))
+      → Says old.sink new.sink (line_of ending) (status_of ending) status → Traced disk old new status
+  no_call ending goes reason source faults valid said = record {
     ending = ending;
     history = [];
     printed = [];
     unprinted = [];
-    is_history = record { legal = λ _. inl refl; counted = let later = goes.faults in omega (arith, later); touches = same_touches disk was is goes; still = λ _. goes };
+    is_history = record { legal = λ _. inl refl; rooms = (65536, (omega arith, omega arith), tt); touches = same_touches disk old.disk new.disk goes; still = λ _. goes };
     text_is = refl;
     whole = whole_of_none ending;
     reason = reason;
+    source = source;
+    faults = faults;
     complete = valid;
     said = said;
   }
 
-  no_memory : Goes disk Same was is → Says old new had has (line_of NoMemory) 3 status → Traced disk was is left behind before now old new had has status
-  no_memory goes said = no_call NoMemory goes ([], tt, λ script told. inl refl) (λ script lines valid. inl refl) said
+  no_memory : Goes disk Same old.disk new.disk → new.source.faults ≡ old.source.faults → disk.faults new.disk ≡ disk.faults old.disk → Says old.sink new.sink (line_of NoMemory) 3 status → Traced disk old new status
+  no_memory goes source faults said = no_call NoMemory goes ([], tt, λ script told. inl refl) source (none_counted _ _ faults) (λ script lines valid. inl refl) said
 
-  read_fault : Goes disk Same was is → Rose before now → Says old new had has (line_of ends.ReadFault) 4 status → Traced disk was is left behind before now old new had has status
-  read_fault goes rose said = no_call ends.ReadFault goes (refl, rose) (λ script lines valid. absurd (valid.source rose)) said
+  -- the script is not read, and the disk was not called
+  pub read_refused : (ending : Ending) → new.disk ≡ old.disk → Reads old.source new.source (Err ending) → Says old.sink new.sink (line_of ending) (status_of ending) status → Traced disk old new status
+  read_refused ending same reads said = by ending reads said
+    where
+      goes : Goes disk Same old.disk new.disk
+      goes = subst (λ d. Goes disk Same old.disk d) (sym same) (same_disk disk old.disk)
 
-  too_long : Goes disk Same was is → IsTooLong left → Says old new had has (line_of ends.TooLong) 13 status → Traced disk was is left behind before now old new had has status
-  too_long goes long said = no_call ends.TooLong goes (refl, long) (λ script lines valid. let more = long script valid.told in let most = valid.asks.0 in absurd (omega (arith, more, most))) said
+      sound : disk.faults new.disk ≡ disk.faults old.disk
+      sound = ap disk.faults same
 
-  -- the source is not read to its end
-  pub input_refused : (fault : ReadAllFault) → Goes disk Same was is → (fault ≡ input.Failed → Rose before now) → (fault ≡ input.TooLong → IsTooLong left)
-      → Says old new had has (line_of (ending_of_input fault)) (status_of (ending_of_input fault)) status → Traced disk was is left behind before now old new had has status
-  input_refused input.Failed goes rose long said = read_fault goes (rose refl) said
-  input_refused input.TooLong goes rose long said = too_long goes (long refl) said
-  input_refused input.NoMemory goes rose long said = no_memory goes said
-
-  -- the script is not read
-  pub script_refused : (bytes : List ℕ) (fault : ScriptFault) → Goes disk Same was is
-      → Consumes left behind bytes → IsAtEnd behind → length bytes ≤ SCRIPT_BYTES → (fault ≡ script_fault.NoMemory) ⊎ (script_of CLIENTS bytes ≡ Err fault)
-      → Says old new had has (line_of (ending_of fault)) (status_of (ending_of fault)) status → Traced disk was is left behind before now old new had has status
-  script_refused bytes script_fault.NoMemory goes took ended short why said = no_memory goes said
-  script_refused bytes (Bad line kind) goes took ended short (inl none) said = absurd (cc)
-  script_refused bytes (Bad line kind) goes took ended short (inr bad) said = no_call (BadScript line kind) goes
-      (refl, λ script told. subst (λ t. (length t ≤ SCRIPT_BYTES) × (script_of CLIENTS t ≡ Err (Bad line kind))) (read_whole left behind bytes script took ended told) (short, bad))
-      (λ script lines valid. absurd (err_or_ok _ _ _ (sym (ap (script_of CLIENTS) (read_whole left behind bytes script took ended valid.told)) ∙ bad) valid.asks.1)) said
+      by : (e : Ending) → Reads old.source new.source (Err e) → Says old.sink new.sink (line_of e) (status_of e) status → Traced disk old new status
+      by Done reads said = absurd reads
+      by (ends.Usage word) reads said = absurd reads
+      by NoMemory reads said = no_memory goes reads sound said
+      by ends.ReadFault reads said = no_call ends.ReadFault goes refl reads (none_counted _ _ sound) (λ script lines valid. absurd (valid.source reads)) said
+      by ends.DiskFault reads said = absurd reads
+      by ends.NoStore reads said = absurd reads
+      by ends.StoreExists reads said = absurd reads
+      by (ends.Damaged file at) reads said = absurd reads
+      by (BadScript line kind) reads said = no_call (BadScript line kind) goes (refl, reads.0) reads.1 (none_counted _ _ sound)
+          (λ script lines valid. absurd (err_or_ok _ _ _ (reads.0 script valid.told).1 valid.asks.1)) said
+      by ends.TooLong reads said = no_call ends.TooLong goes (refl, reads.0) reads.1 (none_counted _ _ sound) (λ script lines valid. absurd (too_many _ SCRIPT_BYTES (reads.0 script valid.told) valid.asks.0)) said
 
   -- the store is not opened
-  pub store_refused : (fault : OpenFault) → Goes disk Same was is → Asks left
-      → ((file : List ℕ) (at end : ℕ) (s : State) → IsDamagedHalf file at → StandsFor file end s → ⊥)
-      → (fault ≡ opening.NoStore → IsTrue disk.told → HasNoStore (disk.files was 0))
-      → ((file at : ℕ) → fault ≡ opening.Damaged file at → (file ≡ 0) × (IsTrue disk.told → IsDamagedHalf (disk.files was 0) at))
-      → (fault ≡ opening.StoreExists → ⊥)
-      → (fault ≡ opening.DiskFault → Rose (disk.faults was) (disk.faults is))
-      → Says old new had has (line_of (ending_of_open fault)) (status_of (ending_of_open fault)) status → Traced disk was is left behind before now old new had has status
-  store_refused opening.NoStore goes asks apart none damaged exists rose said = no_call ends.NoStore goes (refl, asks, none refl)
-      (λ script lines valid. let stands = valid.stands.2 in absurd (none refl valid.tells stands.settings stands.half.committed)) said
-  store_refused opening.StoreExists goes asks apart none damaged exists rose said = absurd (exists refl)
-  store_refused (opening.Damaged file at) goes asks apart none damaged exists rose said =
-      let found = damaged file at refl in
-      no_call (ends.Damaged file at) goes (refl, asks, found.0, found.1)
-      (λ script lines valid. absurd (apart _ at _ _ (found.1 valid.tells) valid.stands.2)) said
-  store_refused opening.DiskFault goes asks apart none damaged exists rose said = no_call ends.DiskFault goes (refl, asks, rose refl)
-      (λ script lines valid. absurd (valid.faults (rose refl))) said
-  store_refused opening.NoMemory goes asks apart none damaged exists rose said = no_memory goes said
+  pub store_refused : (lines : List Line) (fault : OpenFault) → Reads old.source new.source (Ok lines) → (IsTrue disk.told → Opened disk old.disk (Err (fault, new.disk))) → Opens {disk = disk} old.disk (Err (fault, new.disk))
+      → Says old.sink new.sink (line_of (ending_of_open fault)) (status_of (ending_of_open fault)) status → Traced disk old new status
+  store_refused lines opening.NoStore read told opens said = no_call ends.NoStore opens.goes (refl, (lines, read.1), told) read.2 (none_counted _ _ opens.counts)
+      (λ script asked valid. let stands = valid.stands.2 in absurd (told valid.tells stands.settings stands.half.committed)) said
+  store_refused lines opening.StoreExists read told opens said = absurd (opens.errors opening.StoreExists new.disk refl)
+  store_refused lines (opening.Damaged file at) read told opens said = no_call (ends.Damaged file at) opens.goes (refl, (lines, read.1), opens.errors (opening.Damaged file at) new.disk refl, λ t. (told t).1) read.2 (none_counted _ _ opens.counts)
+      (λ script asked valid. absurd (stands_apart _ at _ _ (told valid.tells).1 valid.stands.2)) said
+  store_refused lines opening.DiskFault read told opens said = no_call ends.DiskFault opens.goes (refl, (lines, read.1)) read.2 opens.counts
+      (λ script asked valid. absurd (valid.faults opens.counts)) said
+  store_refused lines opening.NoMemory read told opens said = no_memory opens.goes read.2 opens.counts said
 
-  -- why a run that made these calls ends so
-  made_reason : (mid : Option (List ℕ)) (held : ℕ) (bytes : List ℕ) (lines : List Line) (ending : Ending) (refused : Bool)
-      → Consumes left behind bytes → IsAtEnd behind → now ≡ before → length bytes ≤ SCRIPT_BYTES → script_of CLIENTS bytes ≡ Ok lines
-      → (m : Made disk was is lines old mid had held ending refused) → (ending ≡ Done) ⊎ (ending ≡ NoMemory) → HasReason disk was is left behind before now m.history ending
-  made_reason mid held bytes lines ending refused took ended sound short asks m (inl done) =
-      let all : lines ≡ m.made = m.lines_are ∙ ap (λ l. m.made ++ l) (m.all_made done) ∙ append-nil m.made in
-      let why : HasReason disk was is left behind before now m.history Done =
-      (ended, sound, m.stands, m.made, m.in_order, λ script told. subst (λ t. AsksFor t m.made) (read_whole left behind bytes script took ended told) (short, asks ∙ ap Ok all)) in
-      subst (HasReason disk was is left behind before now m.history) (sym done) why
-  made_reason mid held bytes lines ending refused took ended sound short asks m (inr none) =
-      let why : HasReason disk was is left behind before now m.history NoMemory =
-      (m.made, m.in_order, λ script told. inr (m.left, subst (λ t. AsksFor t (m.made ++ m.left)) (read_whole left behind bytes script took ended told) (short, asks ∙ ap Ok m.lines_are))) in
-      subst (HasReason disk was is left behind before now m.history) (sym none) why
+  module _ (lines : List Line) (read : Reads old.source new.source (Ok lines)) where
+    -- why a run that made these calls ends so
+    made_reason : (mid : _) (ending : Ending) (refused : Bool) (m : CallsMade disk old.disk new.disk lines old.sink mid ending refused) → (ending ≡ Done) ⊎ (ending ≡ NoMemory) → HasReason disk old new m.history ending
+    made_reason mid ending refused m (inl done) =
+        let all : lines ≡ m.made = m.lines_are ∙ ap (λ l. m.made ++ l) (m.all_made done) ∙ append-nil m.made in
+        let why : HasReason disk old new m.history Done =
+        (read.0, m.stands, m.made, m.in_order, λ script told. let asks = read.1 script told in (asks.0, asks.1 ∙ ap Ok all)) in
+        subst (HasReason disk old new m.history) (sym done) why
+    made_reason mid ending refused m (inr none) =
+        let why : HasReason disk old new m.history NoMemory =
+        (m.made, m.in_order, λ script told. let asks = read.1 script told in inr (m.left, (asks.0, asks.1 ∙ ap Ok m.lines_are))) in
+        subst (HasReason disk old new m.history) (sym none) why
 
-  -- a valid run that made its calls was not refused any, but for want of memory
-  made_complete : (mid : Option (List ℕ)) (held : ℕ) (bytes : List ℕ) (lines : List Line) (ending : Ending) (refused : Bool)
-      → Consumes left behind bytes → IsAtEnd behind → script_of CLIENTS bytes ≡ Ok lines
-      → (m : Made disk was is lines old mid had held ending refused) → (ending ≡ Done) ⊎ (ending ≡ NoMemory)
-      → (script : List ℕ) (asked : List Line) → IsValidTrace disk was is left before now had has script asked → (ending ≡ NoMemory) ⊎ ((ending ≡ Done) × IsFulfilled m.history)
-  made_complete mid held bytes lines ending refused took ended asks m (inr none) script asked valid = inl none
-  made_complete mid held bytes lines ending refused took ended asks m (inl done) script asked valid =
-      let all : lines ≡ m.made = m.lines_are ∙ ap (λ l. m.made ++ l) (m.all_made done) ∙ append-nil m.made in
-      let same : lines ≡ asked = oks _ _ (sym asks ∙ ap (script_of CLIENTS) (read_whole left behind bytes script took ended valid.told) ∙ valid.asks.1) in
-      let order : InOrder [] asked m.history = subst (λ l. InOrder [] l m.history) (sym all ∙ same) m.in_order in
-      let none : faults_in m.history ≡ 0 = no_faults (disk.faults was) (disk.faults is) (faults_in m.history) m.is_history.counted valid.faults in
-      inr (done, legal_complete m.history (m.is_history.legal valid.tells) order none valid)
-    where
-      legal_complete : (h : List Entry) → (h ≡ []) ⊎ IsLegalFrom disk was is h → InOrder [] asked h → faults_in h ≡ 0 → IsValidTrace disk was is left before now had has script asked → IsFulfilled h
-      legal_complete h (inl none) order sound valid = inl (ap (list_any is_refused) none)
-      legal_complete h (inr l) order sound valid = inl (fulfilled l.state l.end h l.legal l.rooms (valid.place l.state l.end h l.stands order l.legal) sound)
+    -- such an ending blames neither the source nor the disk
+    counts_source : (ending : Ending) → (ending ≡ Done) ⊎ (ending ≡ NoMemory) → CountsSource ending old.source.faults new.source.faults
+    counts_source ending (inl done) = subst (λ e. CountsSource e old.source.faults new.source.faults) (sym done) read.2
+    counts_source ending (inr none) = subst (λ e. CountsSource e old.source.faults new.source.faults) (sym none) read.2
 
-  pub traced : (mid : Option (List ℕ)) (held : ℕ) (bytes : List ℕ) (lines : List Line) (ending : Ending)
-      → Consumes left behind bytes → IsAtEnd behind → now ≡ before → length bytes ≤ SCRIPT_BYTES → script_of CLIENTS bytes ≡ Ok lines
-      → Made disk was is lines old mid had held ending false → Says mid new held has (line_of ending) (status_of ending) status → Traced disk was is left behind before now old new had has status
-  traced mid held bytes lines ending took ended sound short asks m said = record {
-    ending = ending;
-    history = m.history;
-    printed = m.printed;
-    unprinted = m.unprinted;
-    is_history = m.is_history;
-    text_is = m.text_is;
-    whole = is_whole ending m.unprinted (m.all_printed refl) m.ends;
-    reason = made_reason mid held bytes lines ending false took ended sound short asks m m.ends;
-    complete = made_complete mid held bytes lines ending false took ended asks m m.ends;
-    said = says_behind old mid new had held has m.printed (line_of ending) (status_of ending) status m.wrote (m.sound refl) said;
-  }
+    counts_disk : (mid : _) (ending : Ending) (refused : Bool) (m : CallsMade disk old.disk new.disk lines old.sink mid ending refused) → (ending ≡ Done) ⊎ (ending ≡ NoMemory) → CountsDisk ending m.history (disk.faults old.disk) (disk.faults new.disk)
+    counts_disk mid ending refused m (inl done) = subst (λ e. CountsDisk e m.history (disk.faults old.disk) (disk.faults new.disk)) (sym done) m.faults
+    counts_disk mid ending refused m (inr none) = subst (λ e. CountsDisk e m.history (disk.faults old.disk) (disk.faults new.disk)) (sym none) m.faults
 
-  -- the same where the sink refused a line
-  pub traced_refused : (script : List ℕ) (lines : List Line) (ending : Ending)
-      → Consumes left behind script → IsAtEnd behind → now ≡ before → length script ≤ SCRIPT_BYTES → script_of CLIENTS script ≡ Ok lines
-      → Made disk was is lines old new had has ending true → status ≡ 5 → Traced disk was is left behind before now old new had has status
-  traced_refused script lines ending took ended sound short asks m five = record {
-    ending = ending;
-    history = m.history;
-    printed = text m.history;
-    unprinted = [];
-    is_history = m.is_history;
-    text_is = sym (append-nil (text m.history));
-    whole = is_whole ending [] (λ _. refl) m.ends;
-    reason = made_reason new has script lines ending true took ended sound short asks m m.ends;
-    complete = made_complete new has script lines ending true took ended asks m m.ends;
-    said = inr (five, m.rose refl, subst (AppendsFront old new) (sym (append_assoc m.printed m.unprinted (line_of ending)) ∙ ap (λ t. t ++ line_of ending) (sym m.text_is)) (front_of_more old new m.printed (m.unprinted ++ line_of ending) (front_whole old new m.printed m.wrote)));
-  }
+    -- a valid run that made its calls was not refused any, but out of memory
+    made_complete : (mid : _) (ending : Ending) (refused : Bool) (m : CallsMade disk old.disk new.disk lines old.sink mid ending refused) → (ending ≡ Done) ⊎ (ending ≡ NoMemory)
+        → (script : List ℕ) (asked : List Line) → IsValidTrace disk old new script asked → (ending ≡ NoMemory) ⊎ ((ending ≡ Done) × IsFulfilled m.history)
+    made_complete mid ending refused m (inr none) script asked valid = inl none
+    made_complete mid ending refused m (inl done) script asked valid =
+        inr (done, inl (by (m.is_history.legal valid.tells)))
+      where
+        asked_is : asked ≡ m.made
+        asked_is = oks asked m.made (sym valid.asks.1 ∙ (read.1 script valid.told).1 ∙ ap Ok (m.lines_are ∙ ap (λ l. m.made ++ l) (m.all_made done) ∙ append-nil m.made))
+
+        by : (m.history ≡ []) ⊎ IsLegalFrom disk old.disk new.disk m.history → list_any is_refused m.history ≡ false
+        by (inl none) = subst (λ h. list_any is_refused h ≡ false) (sym none) refl
+        by (inr l) = fulfilled l.state l.end m.history l.legal l.rooms
+            (valid.place l.state l.end m.history l.stands (subst (λ ls. InOrder [] ls m.history) (sym asked_is) m.in_order) l.legal)
+            (no_faults (disk.faults old.disk) (disk.faults new.disk) (faults_in m.history) m.faults.enough valid.faults)
+
+    -- a run that made calls, and wrote how it ended
+    pub traced : (mid : _) (ending : Ending) → CallsMade disk old.disk new.disk lines old.sink mid ending false → Says mid new.sink (line_of ending) (status_of ending) status → Traced disk old new status
+    traced mid ending m said = record {
+      ending = ending;
+      history = m.history;
+      printed = m.printed;
+      unprinted = m.unprinted;
+      is_history = m.is_history;
+      text_is = m.text_is;
+      whole = is_whole ending m.unprinted (m.all_printed refl) m.ends;
+      reason = made_reason mid ending false m m.ends;
+      source = counts_source ending m.ends;
+      faults = counts_disk mid ending false m m.ends;
+      complete = made_complete mid ending false m m.ends;
+      said = says_behind old.sink mid new.sink m.printed (line_of ending) (status_of ending) status m.wrote (m.sound refl) said;
+    }
+
+    -- the same where the sink refused a line
+    pub traced_refused : (ending : Ending) → CallsMade disk old.disk new.disk lines old.sink new.sink ending true → status ≡ 5 → Traced disk old new status
+    traced_refused ending m five = record {
+      ending = ending;
+      history = m.history;
+      printed = text m.history;
+      unprinted = [];
+      is_history = m.is_history;
+      text_is = sym (append-nil (text m.history));
+      whole = is_whole ending [] (λ _. refl) m.ends;
+      reason = made_reason new.sink ending true m m.ends;
+      source = counts_source ending m.ends;
+      faults = counts_disk new.sink ending true m m.ends;
+      complete = made_complete new.sink ending true m m.ends;
+      said = inr (five, subst (AppendsFront old.sink.written new.sink.written) (sym (append_assoc m.printed m.unprinted (line_of ending)) ∙ ap (λ t. t ++ line_of ending) (sym m.text_is)) (front_of_more old.sink.written new.sink.written m.printed (m.unprinted ++ line_of ending) (front_whole old.sink.written new.sink.written m.printed m.wrote)), m.rose refl);
+    }

@@ -11,12 +11,15 @@ use Rattle.ss_model.specs.declared.call.Answer.TheVariants as answer
 use Rattle.ss_model.specs.declared.call.PutReply.TheVariants as put
 use Rattle.ss_model.specs.declared.call.GetReply.TheVariants as get
 use Rattle.ss_model.specs.declared.call.Entry.{Entry}
-use Rattle.ss_app.specs.Room.{OfFullLog, AreRooms, HasPlace, HavePlace, faults_in, end_after, is_refused, record_bytes}
+use Rattle.ss_model.proofs.Need.{record_takes}
+use Rattle.ss_core.specs.Calls.{OfFullLog}
+use Rattle.ss_core.specs.Effect.{bytes_of, record_of}
+use Rattle.ss_app.specs.History.{AreRooms, HasPlace, HavePlace, faults_in, end_after, is_refused}
 
 -- a record of some blocks takes what they need
-some_bytes : (pairs : List (List ℕ × List ℕ)) → pairs ≢ [] → record_bytes pairs ≡ pairs_need pairs
+some_bytes : (pairs : List (List ℕ × List ℕ)) → pairs ≢ [] → bytes_of (record_of pairs) ≡ pairs_need pairs
 some_bytes [] some = absurd (some refl)
-some_bytes (p ∷ pairs) some = refl
+some_bytes (p ∷ pairs) some = sym (record_takes (p ∷ pairs))
 
 more_than_none : (n : ℕ) → 1 + n ≡ 0 → ⊥
 more_than_none n e = omega (arith, e)
@@ -63,7 +66,7 @@ fulfilled s end [] legal rooms place none = refl
 fulfilled s end (e ∷ h) legal rooms place none =
     let split = parts _ (faults_in h) none in
     ap (λ b. b || list_any is_refused h) (one s end e.client e.line e.call e.answer legal.0 rooms.0 place.0 split.0)
-    ∙ fulfilled (After s e.call e.answer) (end_after s end e.call e.answer) h legal.1 rooms.2 place.1 split.1
+    ∙ fulfilled (After s e.call e.answer) (end_after s end e) h legal.1 rooms.2 place.1 split.1
 
 pub no_faults : (before now n : ℕ) → min (before + n) (2 ^ 64 - 1) ≤ now → ¬ (min (before + 1) (2 ^ 64 - 1) ≤ now) → n ≡ 0
 no_faults before now n few none = by n refl few

@@ -1,31 +1,40 @@
 -- Which statuses a run comes to, where the script is good: what is wrong with the store, or nothing.
-use Rattle.std.proofs.Common.{◌≡◌, ◌⊎◌, inl, inr, ⊎_elim, ℕ, ◌<◌, ◌≤◌, List, Option, Some, refl, sym, ◌∙◌, subst, arith}
+use Rattle.std.proofs.Common.{◌≡◌, ◌⊎◌, inl, inr, ⊎_elim, ℕ, ◌<◌, ◌≤◌, List, [], Option, Some, Result, Ok, Err, refl, sym, ap, ◌∙◌, subst, arith}
 use Rattle.std.specs.Prelude.{IsTrue}
-use Rattle.ss_io.specs.Causes.{Rose}
+use Rattle.ss_disk.specs.Disk.{Rose}
 use Rattle.ss_disk.specs.declared.disk.Disk.{Ghosts}
 use Rattle.ss_records.specs.declared.record.Config.{Config as Settings}
-use Rattle.ss_hot.specs.File.{HasSettings, IsDamagedHalf}
+use Rattle.ss_hot.specs.File.{HasSettings}
 use Rattle.ss_model.specs.declared.call.Entry.{Entry}
 use Rattle.ss_app.specs.declared.TheConstants.{SCRIPT_BYTES}
 use Rattle.ss_script.specs.declared.line.Line.{Line}
 use Rattle.ss_app.specs.declared.ending.Ending.{Ending}
 use Rattle.ss_app.specs.declared.ending.Ending.TheVariants as ends
 use Rattle.ss_app.specs.Ending.{status_of}
-use Rattle.ss_app.specs.Opening.{HasNoStore}
-use Rattle.ss_app.specs.Outcome.{Says, Traced, Inited, HasReason, HasInitReason, AsksFor, RefusesStore, RefusesInit, IsFreeOfDisk}
-use Rattle.ss_app.proofs.Apart.{stands_apart}
+use Rattle.ss_open.specs.Opening.{HasNoStore, IsDamagedStore}
+use Rattle.ss_app.specs.Outcome.{Says, Traced, Inited, Writes, Ran, HasReason, HasInitReason, CountsSource, CountsDisk, AsksFor, RefusesStore, RefusesInit, IsFreeOfDisk, IsValidInit, TellsFaults}
+use Rattle.ss_app.specs.World.{Output, World}
+use Rattle.ss_app.specs.History.{AreCounted, faults_in}
+use Rattle.ss_app.specs.declared.words.Command.{Command}
+use Rattle.ss_app.specs.declared.words.Command.TheVariants.{Init, Trace, Help, Version}
+use Rattle.ss_open.proofs.Openings.{stands_apart}
 use Rattle.ss_app.proofs.Fulfilled.{err_or_ok}
 
 -- what is said of an ending, or of a sink that failed
-own_or_five : (old new : Option (List ℕ)) (had has : ℕ) (bytes : List ℕ) (own status : ℕ) → Says old new had has bytes own status → (status ≡ own) ⊎ ((status ≡ 5) × Rose had has)
-own_or_five old new had has bytes own status (inl said) = inl said.0
-own_or_five old new had has bytes own status (inr said) = inr (said.0, said.1)
+own_or_five : (old new : Output) (bytes : List ℕ) (own status : ℕ) → Says old new bytes own status → ((status ≡ own) × (new.faults ≡ old.faults)) ⊎ ((status ≡ 5) × Rose old.faults new.faults)
+own_or_five old new bytes own status (inl said) = inl (said.0, said.2)
+own_or_five old new bytes own status (inr said) = inr (said.0, said.2)
 
 too_many : (n most : ℕ) → most < n → n ≤ most → ⊥
 too_many n most more few = omega (arith, more, few)
 
-module _ {D : Type 0} (disk : Ghosts D) (was is : D) (left behind : Option (List ℕ)) (before now : ℕ) (h : List Entry) (told : IsTrue disk.told) where
-  seven : (e : Ending) → status_of e ≡ 7 → HasReason disk was is left behind before now h e → HasNoStore (disk.files was 0)
+-- a damaged store has settings
+committed_of : (file : List ℕ) (at : ℕ) → IsDamagedStore file at → (settings : Settings) × HasSettings file settings
+committed_of file at (inl half) = (half.settings, half.committed)
+committed_of file at (inr many) = (many.0.0, many.0.2.committed)
+
+module _ {D : Type 0} (disk : Ghosts D) (old new : World D) (h : List Entry) (told : IsTrue disk.told) where
+  seven : (e : Ending) → status_of e ≡ 7 → HasReason disk old new h e → HasNoStore (disk.files old.disk 0)
   seven ends.Done is7 reason = absurd (cc)
   seven (ends.Usage word) is7 reason = absurd (cc)
   seven ends.NoMemory is7 reason = absurd (cc)
@@ -37,7 +46,7 @@ module _ {D : Type 0} (disk : Ghosts D) (was is : D) (left behind : Option (List
   seven (ends.BadScript line kind) is7 reason = absurd (cc)
   seven ends.TooLong is7 reason = absurd (cc)
 
-  eight : (e : Ending) → status_of e ≡ 8 → HasReason disk was is left behind before now h e → (at : ℕ) × IsDamagedHalf (disk.files was 0) at
+  eight : (e : Ending) → status_of e ≡ 8 → HasReason disk old new h e → (at : ℕ) × IsDamagedStore (disk.files old.disk 0) at
   eight ends.Done is8 reason = absurd (cc)
   eight (ends.Usage word) is8 reason = absurd (cc)
   eight ends.NoMemory is8 reason = absurd (cc)
@@ -49,25 +58,25 @@ module _ {D : Type 0} (disk : Ghosts D) (was is : D) (left behind : Option (List
   eight (ends.BadScript line kind) is8 reason = absurd (cc)
   eight ends.TooLong is8 reason = absurd (cc)
 
-  from_none : (script : List ℕ) (lines : List Line) (e : Ending) → left ≡ Some script → AsksFor script lines → HasReason disk was is left behind before now h e → HasNoStore (disk.files was 0) → (status_of e ≡ 7) ⊎ IsFreeOfDisk (status_of e)
-  from_none script lines ends.Done known asks reason none = let stands = (reason.2 told).2 in absurd (none stands.settings stands.half.committed)
+  from_none : (script : List ℕ) (lines : List Line) (e : Ending) → old.source.left ≡ Some script → AsksFor script lines → HasReason disk old new h e → HasNoStore (disk.files old.disk 0) → (status_of e ≡ 7) ⊎ IsFreeOfDisk (status_of e)
+  from_none script lines ends.Done known asks reason none = let stands = (reason.1 told).2 in absurd (none stands.settings stands.half.committed)
   from_none script lines (ends.Usage word) known asks reason none = absurd reason
   from_none script lines ends.NoMemory known asks reason none = inr (inl (inl refl))
   from_none script lines ends.ReadFault known asks reason none = inr (inl (inr (inl refl)))
   from_none script lines ends.DiskFault known asks reason none = inr (inr refl)
   from_none script lines ends.NoStore known asks reason none = inl refl
   from_none script lines ends.StoreExists known asks reason none = absurd reason
-  from_none script lines (ends.Damaged file at) known asks reason none = let found = reason.3 told in absurd (none found.settings found.committed)
+  from_none script lines (ends.Damaged file at) known asks reason none = let found = committed_of _ at (reason.3 told) in absurd (none found.0 found.1)
   from_none script lines (ends.BadScript line kind) known asks reason none = absurd (err_or_ok _ _ _ (reason.1 script known).1 asks.1)
   from_none script lines ends.TooLong known asks reason none = absurd (too_many _ SCRIPT_BYTES (reason.1 script known) asks.0)
 
-  from_damaged : (script : List ℕ) (lines : List Line) (at : ℕ) (e : Ending) → left ≡ Some script → AsksFor script lines → HasReason disk was is left behind before now h e → IsDamagedHalf (disk.files was 0) at → (status_of e ≡ 8) ⊎ IsFreeOfDisk (status_of e)
-  from_damaged script lines at ends.Done known asks reason damaged = let stands = (reason.2 told).2 in absurd (stands_apart _ at _ _ damaged stands)
+  from_damaged : (script : List ℕ) (lines : List Line) (at : ℕ) (e : Ending) → old.source.left ≡ Some script → AsksFor script lines → HasReason disk old new h e → IsDamagedStore (disk.files old.disk 0) at → (status_of e ≡ 8) ⊎ IsFreeOfDisk (status_of e)
+  from_damaged script lines at ends.Done known asks reason damaged = let stands = (reason.1 told).2 in absurd (stands_apart _ at _ _ damaged stands)
   from_damaged script lines at (ends.Usage word) known asks reason damaged = absurd reason
   from_damaged script lines at ends.NoMemory known asks reason damaged = inr (inl (inl refl))
   from_damaged script lines at ends.ReadFault known asks reason damaged = inr (inl (inr (inl refl)))
   from_damaged script lines at ends.DiskFault known asks reason damaged = inr (inr refl)
-  from_damaged script lines at ends.NoStore known asks reason damaged = absurd (reason.2 told damaged.settings damaged.committed)
+  from_damaged script lines at ends.NoStore known asks reason damaged = let found = committed_of _ at damaged in absurd (reason.2 told found.0 found.1)
   from_damaged script lines at ends.StoreExists known asks reason damaged = absurd reason
   from_damaged script lines at (ends.Damaged file place) known asks reason damaged = inl refl
   from_damaged script lines at (ends.BadScript line kind) known asks reason damaged = absurd (err_or_ok _ _ _ (reason.1 script known).1 asks.1)
@@ -81,19 +90,19 @@ not_five status n (inr eight) five is = absurd (let no_five : 5 ≡ 8 = sym five
 free_five : (status : ℕ) → status ≡ 5 → IsFreeOfDisk status
 free_five status five = inl (inr (inr five))
 
-pub refuses_store : {D : Type 0} (disk : Ghosts D) (was is : D) (left behind : Option (List ℕ)) (before now : ℕ) (old new : Option (List ℕ)) (had has status : ℕ) (script : List ℕ) (lines : List Line)
-    → Traced disk was is left behind before now old new had has status → left ≡ Some script → AsksFor script lines → IsTrue disk.told → RefusesStore (disk.files was 0) status
-refuses_store disk was is left behind before now old new had has status script lines t known asks told =
-    let said = own_or_five _ _ _ _ _ _ _ t.said in
+pub refuses_store : {D : Type 0} (disk : Ghosts D) (old new : World D) (status : ℕ) (script : List ℕ) (lines : List Line)
+    → Traced disk old new status → old.source.left ≡ Some script → AsksFor script lines → IsTrue disk.told → RefusesStore (disk.files old.disk 0) status
+refuses_store disk old new status script lines t known asks told =
+    let said = own_or_five _ _ _ _ _ t.said in
     record {
-      no_store = λ e. ⊎_elim (λ own. seven disk was is left behind before now t.history told t.ending (sym own ∙ e) t.reason) (λ five. absurd (not_five status 7 (inl refl) five.0 e)) said;
-      damaged = λ e. ⊎_elim (λ own. eight disk was is left behind before now t.history told t.ending (sym own ∙ e) t.reason) (λ five. absurd (not_five status 8 (inr refl) five.0 e)) said;
-      from_none = λ none. ⊎_elim (λ own. subst (λ n. (n ≡ 7) ⊎ IsFreeOfDisk n) (sym own) (from_none disk was is left behind before now t.history told script lines t.ending known asks t.reason none)) (λ five. inr (free_five status five.0)) said;
-      from_damaged = λ at damaged. ⊎_elim (λ own. subst (λ n. (n ≡ 8) ⊎ IsFreeOfDisk n) (sym own) (from_damaged disk was is left behind before now t.history told script lines at t.ending known asks t.reason damaged)) (λ five. inr (free_five status five.0)) said;
+      no_store = λ e. ⊎_elim (λ own. seven disk old new t.history told t.ending (sym own.0 ∙ e) t.reason) (λ five. absurd (not_five status 7 (inl refl) five.0 e)) said;
+      damaged = λ e. ⊎_elim (λ own. eight disk old new t.history told t.ending (sym own.0 ∙ e) t.reason) (λ five. absurd (not_five status 8 (inr refl) five.0 e)) said;
+      from_none = λ none. ⊎_elim (λ own. subst (λ n. (n ≡ 7) ⊎ IsFreeOfDisk n) (sym own.0) (from_none disk old new t.history told script lines t.ending known asks t.reason none)) (λ five. inr (free_five status five.0)) said;
+      from_damaged = λ at damaged. ⊎_elim (λ own. subst (λ n. (n ≡ 8) ⊎ IsFreeOfDisk n) (sym own.0) (from_damaged disk old new t.history told script lines at t.ending known asks t.reason damaged)) (λ five. inr (free_five status five.0)) said;
     }
 
-module _ {D : Type 0} (disk : Ghosts D) (was is : D) (settings : Settings) (told : IsTrue disk.told) where
-  exists_of : (e : Ending) → status_of e ≡ 7 → HasInitReason disk was is settings e → (committed : Settings) × HasSettings (disk.files was 0) committed
+module _ {D : Type 0} (disk : Ghosts D) (old new : World D) (settings : Settings) (told : IsTrue disk.told) where
+  exists_of : (e : Ending) → status_of e ≡ 7 → HasInitReason disk old.disk new.disk settings e → (committed : Settings) × HasSettings (disk.files old.disk 0) committed
   exists_of ends.Done is7 reason = absurd (cc)
   exists_of (ends.Usage word) is7 reason = absurd reason
   exists_of ends.NoMemory is7 reason = absurd (cc)
@@ -105,7 +114,7 @@ module _ {D : Type 0} (disk : Ghosts D) (was is : D) (settings : Settings) (told
   exists_of (ends.BadScript line kind) is7 reason = absurd reason
   exists_of ends.TooLong is7 reason = absurd reason
 
-  from_store : (e : Ending) (committed : Settings) → HasSettings (disk.files was 0) committed → HasInitReason disk was is settings e → (status_of e ≡ 7) ⊎ IsFreeOfDisk (status_of e)
+  from_store : (e : Ending) (committed : Settings) → HasSettings (disk.files old.disk 0) committed → HasInitReason disk old.disk new.disk settings e → (status_of e ≡ 7) ⊎ IsFreeOfDisk (status_of e)
   from_store ends.Done committed has reason = absurd ((reason told).0 committed has)
   from_store (ends.Usage word) committed has reason = absurd reason
   from_store ends.NoMemory committed has reason = inr (inl (inl refl))
@@ -117,28 +126,104 @@ module _ {D : Type 0} (disk : Ghosts D) (was is : D) (settings : Settings) (told
   from_store (ends.BadScript line kind) committed has reason = absurd reason
   from_store ends.TooLong committed has reason = absurd reason
 
-  made_or_not : (e : Ending) → HasNoStore (disk.files was 0) → ¬ Rose (disk.faults was) (disk.faults is) → HasInitReason disk was is settings e → (status_of e ≡ 0) ⊎ (status_of e ≡ 3)
-  made_or_not ends.Done none sound reason = inl refl
-  made_or_not (ends.Usage word) none sound reason = absurd reason
-  made_or_not ends.NoMemory none sound reason = inr refl
-  made_or_not ends.ReadFault none sound reason = absurd reason
-  made_or_not ends.DiskFault none sound reason = absurd (sound reason)
-  made_or_not ends.NoStore none sound reason = absurd reason
-  made_or_not ends.StoreExists none sound reason = let found = reason told in absurd (none found.0 found.1)
-  made_or_not (ends.Damaged file at) none sound reason = absurd reason
-  made_or_not (ends.BadScript line kind) none sound reason = absurd reason
-  made_or_not ends.TooLong none sound reason = absurd reason
+  made_or_not : (e : Ending) → HasNoStore (disk.files old.disk 0) → ¬ Rose (disk.faults old.disk) (disk.faults new.disk) → CountsDisk e [] (disk.faults old.disk) (disk.faults new.disk) → HasInitReason disk old.disk new.disk settings e → (status_of e ≡ 0) ⊎ (status_of e ≡ 3)
+  made_or_not ends.Done none sound counts reason = inl refl
+  made_or_not (ends.Usage word) none sound counts reason = absurd reason
+  made_or_not ends.NoMemory none sound counts reason = inr refl
+  made_or_not ends.ReadFault none sound counts reason = absurd reason
+  made_or_not ends.DiskFault none sound counts reason = absurd (sound counts)
+  made_or_not ends.NoStore none sound counts reason = absurd reason
+  made_or_not ends.StoreExists none sound counts reason = let found = reason told in absurd (none found.0 found.1)
+  made_or_not (ends.Damaged file at) none sound counts reason = absurd reason
+  made_or_not (ends.BadScript line kind) none sound counts reason = absurd reason
+  made_or_not ends.TooLong none sound counts reason = absurd reason
 
-pub refuses_init : {D : Type 0} (disk : Ghosts D) (was is : D) (settings : Settings) (old new : Option (List ℕ)) (had has status : ℕ)
-    → Inited disk was is settings old new had has status → IsTrue disk.told → RefusesInit (disk.files was 0) status
-refuses_init disk was is settings old new had has status i told =
-    let said = own_or_five _ _ _ _ _ _ _ i.said in
+pub refuses_init : {D : Type 0} (disk : Ghosts D) (old new : World D) (settings : Settings) (status : ℕ)
+    → Inited disk old new settings status → IsTrue disk.told → RefusesInit (disk.files old.disk 0) status
+refuses_init disk old new settings status i told =
+    let said = own_or_five _ _ _ _ _ i.said in
     record {
-      exists = λ e. ⊎_elim (λ own. exists_of disk was is settings told i.ending (sym own ∙ e) i.reason) (λ five. absurd (not_five status 7 (inl refl) five.0 e)) said;
-      from_store = λ committed found. ⊎_elim (λ own. subst (λ n. (n ≡ 7) ⊎ IsFreeOfDisk n) (sym own) (from_store disk was is settings told i.ending committed found i.reason)) (λ five. inr (free_five status five.0)) said;
+      exists = λ e. ⊎_elim (λ own. exists_of disk old new settings told i.ending (sym own.0 ∙ e) i.reason) (λ five. absurd (not_five status 7 (inl refl) five.0 e)) said;
+      from_store = λ committed found. ⊎_elim (λ own. subst (λ n. (n ≡ 7) ⊎ IsFreeOfDisk n) (sym own.0) (from_store disk old new settings told i.ending committed found i.reason)) (λ five. inr (free_five status five.0)) said;
     }
 
-pub init_completes : {D : Type 0} (disk : Ghosts D) (was is : D) (settings : Settings) (old new : Option (List ℕ)) (had has status : ℕ)
-    → Inited disk was is settings old new had has status → IsTrue disk.told → HasNoStore (disk.files was 0) → ¬ Rose had has → ¬ Rose (disk.faults was) (disk.faults is) → (status ≡ 0) ⊎ (status ≡ 3)
-init_completes disk was is settings old new had has status i told none sink sound =
-    ⊎_elim (λ own. subst (λ n. (n ≡ 0) ⊎ (n ≡ 3)) (sym own) (made_or_not disk was is settings told i.ending none sound i.reason)) (λ five. absurd (sink five.1)) (own_or_five _ _ _ _ _ _ _ i.said)
+pub init_completes : {D : Type 0} (disk : Ghosts D) (old new : World D) (settings : Settings) (status : ℕ)
+    → Inited disk old new settings status → IsValidInit disk old new → (status ≡ 0) ⊎ (status ≡ 3)
+init_completes disk old new settings status i valid =
+    ⊎_elim (λ own. subst (λ n. (n ≡ 0) ⊎ (n ≡ 3)) (sym own.0) (made_or_not disk old new settings valid.tells i.ending valid.none valid.faults i.faults i.reason)) (λ five. absurd (valid.sink five.1)) (own_or_five _ _ _ _ _ i.said)
+
+-- what the counts of faults tell, by the status of how a run ended
+record Blames {D : Type 0} (disk : Ghosts D) (old new : World D) (own : ℕ) : Type 0 where
+  never : own ≡ 5 → ⊥
+  read : own ≡ 4 → Rose old.source.faults new.source.faults
+  source : (own ≡ 4) ⊎ (new.source.faults ≡ old.source.faults)
+  store : own ≡ 6 → Rose (disk.faults old.disk) (disk.faults new.disk)
+  sound : (own ≡ 0) ⊎ ((own ≡ 3) ⊎ ((own ≡ 6) ⊎ (disk.faults new.disk ≡ disk.faults old.disk)))
+
+-- no count rose
+blames_none : {D : Type 0} (disk : Ghosts D) (old new : World D) (own : ℕ) → (own ≡ 5 → ⊥) → (own ≡ 4 → ⊥) → (own ≡ 6 → ⊥) → new.source.faults ≡ old.source.faults → disk.faults new.disk ≡ disk.faults old.disk → Blames disk old new own
+blames_none disk old new own no5 no4 no6 source sound = record { never = no5; read = λ is. absurd (no4 is); source = inr source; store = λ is. absurd (no6 is); sound = inr (inr (inr sound)) }
+
+no_entry : (before now : ℕ) (h : List Entry) → h ≡ [] → AreCounted before now h → now ≡ before
+no_entry before now h none counted = counted.none (ap faults_in none)
+
+module _ {D : Type 0} (disk : Ghosts D) (old new : World D) where
+  blames_trace : (h : List Entry) (e : Ending) → HasReason disk old new h e → CountsSource e old.source.faults new.source.faults → CountsDisk e h (disk.faults old.disk) (disk.faults new.disk) → Blames disk old new (status_of e)
+  blames_trace h ends.Done reason source faults = record { never = λ is. cc; read = λ is. absurd (cc); source = inr source; store = λ is. absurd (cc); sound = inl refl }
+  blames_trace h (ends.Usage word) reason source faults = absurd reason
+  blames_trace h ends.NoMemory reason source faults = record { never = λ is. cc; read = λ is. absurd (cc); source = inr source; store = λ is. absurd (cc); sound = inr (inl refl) }
+  blames_trace h ends.ReadFault reason source faults = record { never = λ is. cc; read = λ is. source; source = inl refl; store = λ is. absurd (cc); sound = inr (inr (inr (no_entry _ _ h reason faults))) }
+  blames_trace h ends.DiskFault reason source faults = record { never = λ is. cc; read = λ is. absurd (cc); source = inr source; store = λ is. faults; sound = inr (inr (inl refl)) }
+  blames_trace h ends.NoStore reason source faults = blames_none disk old new 7 (λ is. cc) (λ is. cc) (λ is. cc) source (no_entry _ _ h reason.0 faults)
+  blames_trace h ends.StoreExists reason source faults = absurd reason
+  blames_trace h (ends.Damaged file at) reason source faults = blames_none disk old new 8 (λ is. cc) (λ is. cc) (λ is. cc) source (no_entry _ _ h reason.0 faults)
+  blames_trace h (ends.BadScript line kind) reason source faults = blames_none disk old new 9 (λ is. cc) (λ is. cc) (λ is. cc) source (no_entry _ _ h reason.0 faults)
+  blames_trace h ends.TooLong reason source faults = blames_none disk old new 13 (λ is. cc) (λ is. cc) (λ is. cc) source (no_entry _ _ h reason.0 faults)
+
+  blames_init : (settings : Settings) (e : Ending) → HasInitReason disk old.disk new.disk settings e → new.source ≡ old.source → CountsDisk e [] (disk.faults old.disk) (disk.faults new.disk) → Blames disk old new (status_of e)
+  blames_init settings ends.Done reason source faults = record { never = λ is. cc; read = λ is. absurd (cc); source = inr (ap (λ i. i.faults) source); store = λ is. absurd (cc); sound = inl refl }
+  blames_init settings (ends.Usage word) reason source faults = absurd reason
+  blames_init settings ends.NoMemory reason source faults = record { never = λ is. cc; read = λ is. absurd (cc); source = inr (ap (λ i. i.faults) source); store = λ is. absurd (cc); sound = inr (inl refl) }
+  blames_init settings ends.ReadFault reason source faults = absurd reason
+  blames_init settings ends.DiskFault reason source faults = record { never = λ is. cc; read = λ is. absurd (cc); source = inr (ap (λ i. i.faults) source); store = λ is. faults; sound = inr (inr (inl refl)) }
+  blames_init settings ends.NoStore reason source faults = absurd reason
+  blames_init settings ends.StoreExists reason source faults = blames_none disk old new 7 (λ is. cc) (λ is. cc) (λ is. cc) (ap (λ i. i.faults) source) (faults.none refl)
+  blames_init settings (ends.Damaged file at) reason source faults = absurd reason
+  blames_init settings (ends.BadScript line kind) reason source faults = absurd reason
+  blames_init settings ends.TooLong reason source faults = absurd reason
+
+  -- the same of the status of the run, which is that of its ending, or 5
+  tells : (bytes : List ℕ) (own status : ℕ) → Blames disk old new own → Says old.sink new.sink bytes own status → TellsFaults disk old new status
+  tells bytes own status b (inl said) = record {
+    write = λ is. absurd (b.never (sym said.0 ∙ is));
+    sink = inr said.2;
+    read = λ is. b.read (sym said.0 ∙ is);
+    source = ⊎_elim (λ four. inl (said.0 ∙ four)) (λ same. inr (inr same)) b.source;
+    store = λ is. b.store (sym said.0 ∙ is);
+    sound = inr (subst (λ n. (n ≡ 0) ⊎ ((n ≡ 3) ⊎ ((n ≡ 6) ⊎ (disk.faults new.disk ≡ disk.faults old.disk)))) (sym said.0) b.sound);
+  }
+  tells bytes own status b (inr said) = record {
+    write = λ is. said.2;
+    sink = inl said.0;
+    read = λ is. absurd (let no : 5 ≡ 4 = sym said.0 ∙ is in cc);
+    source = inr (inl said.0);
+    store = λ is. absurd (let no : 5 ≡ 6 = sym said.0 ∙ is in cc);
+    sound = inl said.0;
+  }
+
+  tells_written : (bytes : List ℕ) (own status : ℕ) → (own ≡ 0) ⊎ (own ≡ 2) → Writes old new bytes own status → TellsFaults disk old new status
+  tells_written bytes own status which w = tells bytes own status (by which) w.said
+    where
+      source : new.source.faults ≡ old.source.faults
+      source = ap (λ i. i.faults) w.source
+
+      by : (own ≡ 0) ⊎ (own ≡ 2) → Blames disk old new own
+      by (inl is) = rw is (blames_none disk old new 0 (λ e. cc) (λ e. cc) (λ e. cc) source (ap disk.faults w.disk))
+      by (inr is) = rw is (blames_none disk old new 2 (λ e. cc) (λ e. cc) (λ e. cc) source (ap disk.faults w.disk))
+
+  pub tells_faults : (asked : Result Command ℕ) (status : ℕ) → Ran asked disk old new status → TellsFaults disk old new status
+  tells_faults (Ok (Init settings)) status i = tells _ _ status (blames_init settings i.ending i.reason i.source i.faults) i.said
+  tells_faults (Ok Trace) status t = tells _ _ status (blames_trace t.history t.ending t.reason t.source t.faults) t.said
+  tells_faults (Ok Help) status w = tells_written _ 0 status (inl refl) w
+  tells_faults (Ok Version) status w = tells_written _ 0 status (inl refl) w
+  tells_faults (Err word) status w = tells_written _ 2 status (inr refl) w

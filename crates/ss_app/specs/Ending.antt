@@ -9,8 +9,8 @@ use Rattle.ss_script.specs.Fault.{kind_number}
 use Rattle.ss_script.specs.Text.{numbers_text}
 use Rattle.ss_app.specs.declared.ending.Ending.{Ending}
 use Rattle.ss_app.specs.declared.ending.Ending.TheVariants.{Done, Usage, NoMemory, ReadFault, DiskFault, NoStore, StoreExists, Damaged, BadScript, TooLong}
-use Rattle.ss_app.specs.declared.store.OpenFault.{OpenFault}
-use Rattle.ss_app.specs.declared.store.OpenFault.TheVariants as opening
+use Rattle.ss_open.specs.declared.fault.OpenFault.{OpenFault}
+use Rattle.ss_open.specs.declared.fault.OpenFault.TheVariants as opening
 
 -- the ending of a run whose source is not read to its end
 abbrev pub ending_of_input : ReadAllFault → Ending
@@ -42,11 +42,6 @@ status_of StoreExists = 7
 status_of (Damaged file at) = 8
 status_of (BadScript line kind) = 9
 status_of TooLong = 13
-
--- the status of a run: its ending's, or that of a sink that failed
-abbrev pub status_after : Result Ending Failed → ℕ
-status_after (Ok ending) = status_of ending
-status_after (Err failed) = 5
 
 -- the last line that is written
 abbrev pub line_of : Ending → List ℕ

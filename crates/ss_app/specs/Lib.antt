@@ -1,19 +1,19 @@
 pub mod Ending
+pub mod History
 pub mod Input
-pub mod Opening
 pub mod Outcome
 pub mod Printing
 pub mod Progress
 pub mod Run
-pub mod Blocks
-pub mod Fresh
-pub mod Stands
-pub mod Room
-pub mod Puts
 pub mod Words
+pub mod World
 pub use Rattle.ss_model.specs.State
 pub use Rattle.ss_model.specs.Lawful
-pub use Rattle.ss_model.specs.History
+pub use Rattle.ss_model.specs.History as Histories
+pub use Rattle.ss_core.specs.StandsFor
+pub use Rattle.ss_core.specs.Effect
+pub use Rattle.ss_core.specs.Calls as CoreCalls
+pub use Rattle.ss_open.specs.Opening
 pub use Rattle.ss_script.specs.Script
 pub use Rattle.ss_script.specs.Text
 pub use Rattle.ss_script.specs.Views

@@ -1,45 +1,46 @@
 -- What a run comes to.
 --
--- A run of `trace` has an ending, and a history of the calls that it made: legal from the state that the disk stood for, and
--- printed from the front. What is written is what was printed of the history and then the line of the ending, and the status is
--- the ending's. Where the sink failed the status is 5, and a front of these bytes is written; all else stands. The other
--- commands have an ending alone.
-use Rattle.std.specs.Prelude.{◌≡◌, ◌⊎◌, ℕ, Bool, true, false, ◌<◌, ◌≤◌, List, [], ◌++◌, length, codes, Option, Some, Result, Ok, Err, IsErr, IsTrue}
+-- A run of `trace` has an ending, and a history of the calls that it made: legal from the state that the file had, and printed from
+-- the front. What is written is what was printed of the history and then the line of the ending, and the status is the ending's.
+-- Where the sink failed the status is 5, and a prefix of these bytes is written; all else stands. The other commands have an ending
+-- alone.
+use Rattle.std.specs.Prelude.{◌≡◌, ◌⊎◌, ℕ, Bool, true, false, ◌<◌, ◌≤◌, List, [], ◌++◌, length, codes, Option, None, Some, Result, Ok, Err, IsErr, IsTrue}
 use Rattle.std.specs.Option.{ForSome}
 use Rattle.std.specs.Io.KnownBytes.{Appends, IsAtEnd}
-use Rattle.ss_io.specs.Causes.{Rose}
 use Rattle.ss_io.specs.Written.{AppendsFront}
 use Rattle.ss_disk.specs.declared.disk.Disk.{Ghosts}
-use Rattle.ss_disk.specs.Disk.{Files, Same}
+use Rattle.ss_disk.specs.Disk.{Files, Same, Evolves, Rose}
 use Rattle.ss_disk.specs.Calls.{Goes, Touches}
 use Rattle.ss_records.specs.declared.record.Config.{Config as Settings}
-use Rattle.ss_hot.specs.File.{HasSettings, IsDamagedHalf}
-use Rattle.ss_hot.specs.Store.{Hot}
-use Rattle.ss_model.specs.State.{State, empty_state, closed}
+use Rattle.ss_records.specs.declared.record.Record.{Record}
+use Rattle.ss_hot.specs.File.{HasSettings}
+use Rattle.ss_model.specs.State.{State}
 use Rattle.ss_model.specs.History.{Legal, AfterAll}
 use Rattle.ss_model.specs.declared.call.Entry.{Entry}
+use Rattle.ss_core.specs.StandsFor.{HasState, HasEitherState}
+use Rattle.ss_open.specs.Opening.{HasNoStore, IsDamagedStore, AreEmptyBeside, IsNewStore}
+use Rattle.ss_script.specs.declared.TheConstants.{CLIENTS}
+use Rattle.ss_script.specs.declared.line.Line.{Line}
+use Rattle.ss_script.specs.declared.fault.ScriptFault.TheVariants.{Bad}
+use Rattle.ss_script.specs.Script.{script_of}
+use Rattle.ss_script.specs.Text.{text}
 use Rattle.ss_app.specs.declared.TheConstants.{SCRIPT_BYTES}
 use Rattle.ss_app.specs.declared.help.TheConstants.{HELP, VERSION}
 use Rattle.ss_app.specs.declared.words.Command.{Command}
 use Rattle.ss_app.specs.declared.words.Command.TheVariants.{Init, Trace, Help, Version}
-use Rattle.ss_script.specs.declared.line.Line.{Line}
-use Rattle.ss_script.specs.declared.fault.ScriptFault.TheVariants.{Bad}
 use Rattle.ss_app.specs.declared.ending.Ending.{Ending}
 use Rattle.ss_app.specs.declared.ending.Ending.TheVariants.{Done, Usage, NoMemory, ReadFault, DiskFault, NoStore, StoreExists, Damaged, BadScript, TooLong}
 use Rattle.ss_app.specs.Ending.{status_of, line_of}
+use Rattle.ss_app.specs.History.{AreCounted, HasRooms, AreRooms, AreDoubts, AreStill, HavePlace, IsFulfilled}
 use Rattle.ss_app.specs.Input.{IsTooLong}
-use Rattle.ss_app.specs.Opening.{HasNoStore, AreEmptyBeside}
-use Rattle.ss_app.specs.Room.{AreCounted, HasRoomsBy, AreRooms, AreStill, HavePlace, IsFulfilled, doubt_behind}
 use Rattle.ss_app.specs.Run.{InOrder}
-use Rattle.ss_script.specs.declared.TheConstants.{CLIENTS}
-use Rattle.ss_script.specs.Script.{script_of}
-use Rattle.ss_app.specs.Stands.{StandsFor, Serves}
-use Rattle.ss_script.specs.Text.{text}
+use Rattle.ss_app.specs.World.{Input, Output, World}
 
--- the status and the bytes that are written: these, or of a sink that failed 5 and a front of them
-abbrev pub Says : Option (List ℕ) → Option (List ℕ) → ℕ → ℕ → List ℕ → ℕ → ℕ → Type 0
-Says old new before now bytes own status =
-    ((status ≡ own) × Appends old new bytes) ⊎ ((status ≡ 5) × Rose before now × AppendsFront old new bytes)
+-- The status and the bytes that are written: these, where the sink's count of faults stayed; or of a sink that failed 5 and a prefix
+-- of them.
+abbrev pub Says : Output → Output → List ℕ → ℕ → ℕ → Type 0
+Says old new bytes own status =
+    ((status ≡ own) × Appends old.written new.written bytes × (new.faults ≡ old.faults)) ⊎ ((status ≡ 5) × AppendsFront old.written new.written bytes × Rose old.faults new.faults)
 
 -- the script is no longer than it may be, and asks for these lines
 abbrev pub AsksFor : List ℕ → List Line → Type 0
@@ -49,139 +50,179 @@ AsksFor script lines = (length script ≤ SCRIPT_BYTES) × (script_of CLIENTS sc
 abbrev pub Asks : Option (List ℕ) → Type 0
 Asks left = (lines : List Line) × ForSome left (λ script. AsksFor script lines)
 
--- a file stands for a state
+-- a file has the state of a store
 abbrev pub HasStore : List ℕ → Type 0
-HasStore file = (s : State) × (end : ℕ) × StandsFor file end s
+HasStore file = (s : State) × (end : ℕ) × HasState file end s
 
--- Why a run of `trace` that made these calls ends so: the disk was one and is another, left is what the source had left before
--- the run and behind it, and before and now are its counts of faults.
-abbrev pub HasReason : {D : Type 0} → Ghosts D → D → D → Option (List ℕ) → Option (List ℕ) → ℕ → ℕ → List Entry → Ending → Type 0
-HasReason disk was is left behind before now h Done = IsAtEnd behind × (now ≡ before) × (IsTrue disk.told → HasStore (disk.files was 0)) × (lines : List Line) × InOrder [] lines h × ForSome left (λ script. AsksFor script lines)
-HasReason disk was is left behind before now h NoMemory = (lines : List Line) × InOrder [] lines h × ForSome left (λ script. (h ≡ []) ⊎ ((more : List Line) × AsksFor script (lines ++ more)))
-HasReason disk was is left behind before now h ReadFault = (h ≡ []) × Rose before now
-HasReason disk was is left behind before now h (BadScript line kind) = (h ≡ []) × ForSome left (λ script. (length script ≤ SCRIPT_BYTES) × (script_of CLIENTS script ≡ Err (Bad line kind)))
-HasReason disk was is left behind before now h TooLong = (h ≡ []) × IsTooLong left
-HasReason disk was is left behind before now h DiskFault = (h ≡ []) × Asks left × Rose (disk.faults was) (disk.faults is)
-HasReason disk was is left behind before now h NoStore = (h ≡ []) × Asks left × (IsTrue disk.told → HasNoStore (disk.files was 0))
-HasReason disk was is left behind before now h (Damaged file at) = (h ≡ []) × Asks left × (file ≡ 0) × (IsTrue disk.told → IsDamagedHalf (disk.files was 0) at)
-HasReason disk was is left behind before now h StoreExists = ⊥
-HasReason disk was is left behind before now h (Usage word) = ⊥
+-- From a state that the file had, the history is legal; each full log had just the room that was left, and other puts had enough. Each
+-- image now has the state after the history with its views closed, or, where a record is in doubt, the one that it would make.
+pub record IsLegalFrom {D : Type 0} (disk : Ghosts D) (was is : D) (h : List Entry) : Type 0 where
+  pub state : State
+  pub end : ℕ
+  pub stands : HasState (disk.files was 0) end state
+  pub legal : Legal state h
+  pub rooms : AreRooms state end h
+  pub doubt : Option Record
+  pub doubts : AreDoubts state None h doubt
+  pub left : (left : Files) → disk.image is (disk.moment is) left → HasEitherState (AfterAll state h) doubt (left 0)
+
+-- The entries over a disk: legal, where there are any and the disk exposes its files; for each full log its room and what is known of
+-- its file make a limit; no file changed but that of the hot log, and none where no entry may have called the disk.
+pub record IsHistory {D : Type 0} (disk : Ghosts D) (was is : D) (h : List Entry) : Type 0 where
+  pub legal : IsTrue disk.told → (h ≡ []) ⊎ IsLegalFrom disk was is h
+  pub rooms : HasRooms (disk.known is) h
+  pub touches : Touches disk 0 was is
+  pub still : AreStill h → Goes disk Same was is
+
+-- Why a run of `trace` that made these calls ends so.
+abbrev pub HasReason : {D : Type 0} → Ghosts D → World D → World D → List Entry → Ending → Type 0
+HasReason disk old new h Done = IsAtEnd new.source.left × (IsTrue disk.told → HasStore (disk.files old.disk 0)) × (lines : List Line) × InOrder [] lines h × ForSome old.source.left (λ script. AsksFor script lines)
+HasReason disk old new h NoMemory = (lines : List Line) × InOrder [] lines h × ForSome old.source.left (λ script. (h ≡ []) ⊎ ((more : List Line) × AsksFor script (lines ++ more)))
+HasReason disk old new h ReadFault = h ≡ []
+HasReason disk old new h (BadScript line kind) = (h ≡ []) × ForSome old.source.left (λ script. (length script ≤ SCRIPT_BYTES) × (script_of CLIENTS script ≡ Err (Bad line kind)))
+HasReason disk old new h TooLong = (h ≡ []) × IsTooLong old.source.left
+HasReason disk old new h DiskFault = (h ≡ []) × Asks old.source.left
+HasReason disk old new h NoStore = (h ≡ []) × Asks old.source.left × (IsTrue disk.told → HasNoStore (disk.files old.disk 0))
+HasReason disk old new h (Damaged file at) = (h ≡ []) × Asks old.source.left × (file ≡ 0) × (IsTrue disk.told → IsDamagedStore (disk.files old.disk 0) at)
+HasReason disk old new h StoreExists = ⊥
+HasReason disk old new h (Usage word) = ⊥
+
+-- The source's count of faults rose where the run ended by it, and only there.
+abbrev pub CountsSource : Ending → ℕ → ℕ → Type 0
+CountsSource ReadFault before now = Rose before now
+CountsSource _ before now = now ≡ before
+
+-- Where the disk's count of faults rose, the run ended by it before the first call, or entries are its faults.
+abbrev pub CountsDisk : Ending → List Entry → ℕ → ℕ → Type 0
+CountsDisk DiskFault h before now = Rose before now
+CountsDisk _ h before now = AreCounted before now h
+
+-- The lines that a source's script asks for were read, to its end; or this ending tells why not.
+abbrev pub Reads : Input → Input → Result (List Line) Ending → Type 0
+Reads old new (Ok lines) = IsAtEnd new.left × ForSome old.left (λ script. AsksFor script lines) × (new.faults ≡ old.faults)
+Reads old new (Err NoMemory) = new.faults ≡ old.faults
+Reads old new (Err ReadFault) = Rose old.faults new.faults
+Reads old new (Err (BadScript line kind)) = ForSome old.left (λ script. (length script ≤ SCRIPT_BYTES) × (script_of CLIENTS script ≡ Err (Bad line kind))) × (new.faults ≡ old.faults)
+Reads old new (Err TooLong) = IsTooLong old.left × (new.faults ≡ old.faults)
+Reads old new (Err _) = ⊥
 
 -- all of the history is printed where the run is done
 abbrev pub IsWhole : Ending → List ℕ → Type 0
 IsWhole Done unprinted = unprinted ≡ []
 IsWhole _ unprinted = Unit {0}
 
--- A store over a disk stands for this state. Where the last record is not in doubt, each image now stands for the state with its
--- views closed: the next run begins there.
-abbrev pub IsServed : {D : Type 0} → Ghosts D → D → State → Bool → Type 0
-IsServed disk now s doubt = (hot : Hot) × (opened : ℕ) × Serves disk now hot opened s × (doubt ≡ false → (hot.log.unsure ≡ false) × ((left : Files) → disk.image now (disk.moment now) left → StandsFor (left 0) hot.log.end (closed s)))
-
--- From a state that the disk stood for the history is legal; each full log had just the room that was left, which with what is
--- known of the file's length makes the limit, and other puts had enough; and the disk stands for the state behind the history.
-pub record IsLegalFrom {D : Type 0} (disk : Ghosts D) (was is : D) (h : List Entry) : Type 0 where
-  pub state : State
-  pub end : ℕ
-  pub stands : StandsFor (disk.files was 0) end state
-  pub legal : Legal state h
-  pub rooms : AreRooms state end h
-  pub known : HasRoomsBy state.config.limit (disk.known is) h
-  pub left : IsServed disk is (AfterAll state h) (doubt_behind false h)
-
--- The entries over a disk: legal, where there are any and the disk tells its files; faults no more than it counted; no file
--- changed but that of the hot log, and none where no entry may have reached the disk.
-pub record IsHistory {D : Type 0} (disk : Ghosts D) (was is : D) (h : List Entry) : Type 0 where
-  pub legal : IsTrue disk.told → (h ≡ []) ⊎ IsLegalFrom disk was is h
-  pub counted : AreCounted (disk.faults was) (disk.faults is) h
-  pub touches : Touches disk 0 was is
-  pub still : AreStill h → Goes disk Same was is
-
--- Nothing stands in the way of a run of `trace`: the script is told, no longer than it may be, and asks for these lines; no count
--- of faults rises; the disk tells its files, which stand for a state; and every legal history of these lines has a row for each
--- block and room for each record.
-pub record IsValidTrace {D : Type 0} (disk : Ghosts D) (was is : D) (left : Option (List ℕ)) (before now had has : ℕ) (script : List ℕ) (lines : List Line) : Type 0 where
-  pub told : left ≡ Some script
+-- Nothing stands in the way of a run of `trace`: the script is exposed, no longer than it may be, and asks for these lines; no count
+-- of faults rises; the disk exposes its files, which have a state; and every legal history of these lines has a row for each block
+-- and room for each record.
+pub record IsValidTrace {D : Type 0} (disk : Ghosts D) (old new : World D) (script : List ℕ) (lines : List Line) : Type 0 where
+  pub told : old.source.left ≡ Some script
   pub asks : AsksFor script lines
-  pub source : ¬ Rose before now
-  pub sink : ¬ Rose had has
-  pub faults : ¬ Rose (disk.faults was) (disk.faults is)
+  pub source : ¬ Rose old.source.faults new.source.faults
+  pub sink : ¬ Rose old.sink.faults new.sink.faults
+  pub faults : ¬ Rose (disk.faults old.disk) (disk.faults new.disk)
   pub tells : IsTrue disk.told
-  pub stands : HasStore (disk.files was 0)
-  pub place : (s : State) (end : ℕ) (h : List Entry) → StandsFor (disk.files was 0) end s → InOrder [] lines h → Legal s h → HavePlace s end h
+  pub stands : HasStore (disk.files old.disk 0)
+  pub place : (s : State) (end : ℕ) (h : List Entry) → HasState (disk.files old.disk 0) end s → InOrder [] lines h → Legal s h → HavePlace s end h
 
 -- the calls of a run of `trace`, what was printed of them, and its ending
-pub record Traced {D : Type 0} (disk : Ghosts D) (was is : D) (left behind : Option (List ℕ)) (before now : ℕ) (old new : Option (List ℕ)) (had has : ℕ) (status : ℕ) : Type 0 where
+pub record Traced {D : Type 0} (disk : Ghosts D) (old new : World D) (status : ℕ) : Type 0 where
   pub ending : Ending
   pub history : List Entry
   pub printed : List ℕ
   pub unprinted : List ℕ
-  pub is_history : IsHistory disk was is history
+  pub is_history : IsHistory disk old.disk new.disk history
   pub text_is : text history ≡ printed ++ unprinted
   pub whole : IsWhole ending unprinted
-  pub reason : HasReason disk was is left behind before now history ending
-  pub complete : (script : List ℕ) (lines : List Line) → IsValidTrace disk was is left before now had has script lines → (ending ≡ NoMemory) ⊎ ((ending ≡ Done) × IsFulfilled history)
-  pub said : Says old new had has (printed ++ line_of ending) (status_of ending) status
+  pub reason : HasReason disk old new history ending
+  pub source : CountsSource ending old.source.faults new.source.faults
+  pub faults : CountsDisk ending history (disk.faults old.disk) (disk.faults new.disk)
+  pub complete : (script : List ℕ) (lines : List Line) → IsValidTrace disk old new script lines → (ending ≡ NoMemory) ⊎ ((ending ≡ Done) × IsFulfilled history)
+  pub said : Says old.sink new.sink (printed ++ line_of ending) (status_of ending) status
 
 -- what is written of a store that was made
 abbrev pub made_text : Ending → List ℕ
 made_text Done = codes "store made\n"
 made_text _ = []
 
--- each image now is a store with these settings in which nothing is kept, and no other file has a record
-abbrev pub IsNewStore : {D : Type 0} → Ghosts D → D → Settings → Type 0
-IsNewStore disk is settings =
-    (left : Files) → disk.image is (disk.moment is) left → ((end : ℕ) × StandsFor (left 0) end (empty_state settings)) × AreEmptyBeside settings.limit left
-
 -- why making a store with these settings ends so
 abbrev pub HasInitReason : {D : Type 0} → Ghosts D → D → D → Settings → Ending → Type 0
 HasInitReason disk was is settings Done =
     IsTrue disk.told → HasNoStore (disk.files was 0) × IsNewStore disk is settings
-HasInitReason disk was is settings NoMemory = Unit {0}
-HasInitReason disk was is settings DiskFault = Rose (disk.faults was) (disk.faults is)
+HasInitReason disk was is settings NoMemory = Goes disk Same was is
+HasInitReason disk was is settings DiskFault = Unit {0}
 HasInitReason disk was is settings StoreExists = IsTrue disk.told → (committed : Settings) × HasSettings (disk.files was 0) committed
 HasInitReason disk was is settings _ = ⊥
 
--- a run of `init`: where there is a store it changes no file
-pub record Inited {D : Type 0} (disk : Ghosts D) (was is : D) (settings : Settings) (old new : Option (List ℕ)) (had has : ℕ) (status : ℕ) : Type 0 where
+-- A run of `init`: where there is a store it changes no file. Each image since its start has the hot log's file as an image then had
+-- it, or all other files are empty logs.
+pub record Inited {D : Type 0} (disk : Ghosts D) (old new : World D) (settings : Settings) (status : ℕ) : Type 0 where
   pub ending : Ending
-  pub reason : HasInitReason disk was is settings ending
-  pub kept : IsTrue disk.told → HasNoStore (disk.files was 0) ⊎ Goes disk Same was is
-  pub said : Says old new had has (made_text ending ++ line_of ending) (status_of ending) status
+  pub reason : HasInitReason disk old.disk new.disk settings ending
+  pub source : new.source ≡ old.source
+  pub faults : CountsDisk ending [] (disk.faults old.disk) (disk.faults new.disk)
+  pub kept : IsTrue disk.told → HasNoStore (disk.files old.disk 0) ⊎ Goes disk Same old.disk new.disk
+  pub stops : IsTrue disk.told → Evolves (disk.moment old.disk) (disk.image old.disk) (disk.moment new.disk) (disk.image new.disk) (λ before after. (after 0 ≡ before 0) ⊎ AreEmptyBeside settings.limit after)
+  pub said : Says old.sink new.sink (made_text ending ++ line_of ending) (status_of ending) status
 
--- a run of the command that words ask for, or the refusal of the first that is not of the form
-abbrev pub Ran : Result Command ℕ → {D : Type 0} → Ghosts D → D → D → Option (List ℕ) → Option (List ℕ) → ℕ → ℕ → Option (List ℕ) → Option (List ℕ) → ℕ → ℕ → ℕ → Type 0
-Ran (Ok (Init settings)) disk was is left behind before now old new had has status = Inited disk was is settings old new had has status
-Ran (Ok Trace) disk was is left behind before now old new had has status = Traced disk was is left behind before now old new had has status
-Ran (Ok Help) disk was is left behind before now old new had has status = (is ≡ was) × Says old new had has HELP.now 0 status
-Ran (Ok Version) disk was is left behind before now old new had has status = (is ≡ was) × Says old new had has VERSION.now 0 status
-Ran (Err word) disk was is left behind before now old new had has status = (is ≡ was) × Says old new had has (line_of (Usage word)) 2 status
+-- nothing stands in the way of a run of `init`: there is no store, and no count of faults rises
+pub record IsValidInit {D : Type 0} (disk : Ghosts D) (old new : World D) : Type 0 where
+  pub tells : IsTrue disk.told
+  pub none : HasNoStore (disk.files old.disk 0)
+  pub sink : ¬ Rose old.sink.faults new.sink.faults
+  pub faults : ¬ Rose (disk.faults old.disk) (disk.faults new.disk)
 
--- The calls of these lines were made and printed: all of them where the ending is Done, and else some from the front.
--- Where the sink refused a line its count of faults rose, and a front of the text is written.
-pub record Made {D : Type 0} (disk : Ghosts D) (was is : D) (lines : List Line) (old new : Option (List ℕ)) (had has : ℕ) (ending : Ending) (refused : Bool) : Type 0 where
+-- a run that writes this text and calls neither source nor disk
+pub record Writes {D : Type 0} (old new : World D) (bytes : List ℕ) (own status : ℕ) : Type 0 where
+  pub source : new.source ≡ old.source
+  pub disk : new.disk ≡ old.disk
+  pub said : Says old.sink new.sink bytes own status
+
+-- a run of the command that words ask for, or the refusal of the first that is invalid
+abbrev pub Ran : Result Command ℕ → {D : Type 0} → Ghosts D → World D → World D → ℕ → Type 0
+Ran (Ok (Init settings)) disk old new status = Inited disk old new settings status
+Ran (Ok Trace) disk old new status = Traced disk old new status
+Ran (Ok Help) disk old new status = Writes old new HELP.now 0 status
+Ran (Ok Version) disk old new status = Writes old new VERSION.now 0 status
+Ran (Err word) disk old new status = Writes old new (line_of (Usage word)) 2 status
+
+-- Where a stream's count of faults rose, the status tells so: 5 the sink's; 4 the source's, where the sink did not fail as well. A status
+-- that blames a stream or the disk comes only where its count rose. The disk's count rises only on 0 and 3, where entries tell of it,
+-- on 6, and where the sink failed.
+pub record TellsFaults {D : Type 0} (disk : Ghosts D) (old new : World D) (status : ℕ) : Type 0 where
+  pub write : status ≡ 5 → Rose old.sink.faults new.sink.faults
+  pub sink : (status ≡ 5) ⊎ (new.sink.faults ≡ old.sink.faults)
+  pub read : status ≡ 4 → Rose old.source.faults new.source.faults
+  pub source : (status ≡ 4) ⊎ ((status ≡ 5) ⊎ (new.source.faults ≡ old.source.faults))
+  pub store : status ≡ 6 → Rose (disk.faults old.disk) (disk.faults new.disk)
+  pub sound : (status ≡ 5) ⊎ ((status ≡ 0) ⊎ ((status ≡ 3) ⊎ ((status ≡ 6) ⊎ (disk.faults new.disk ≡ disk.faults old.disk))))
+
+-- The calls of these lines were made and printed: all of them where the ending is Done, and else some from the front. Where the sink
+-- refused a line its count of faults rose, and a prefix of the text is written.
+pub record CallsMade {D : Type 0} (disk : Ghosts D) (was is : D) (lines : List Line) (old new : Output) (ending : Ending) (refused : Bool) : Type 0 where
   pub history : List Entry
   pub printed : List ℕ
   pub unprinted : List ℕ
   pub made : List Line
   pub left : List Line
   pub is_history : IsHistory disk was is history
+  pub faults : AreCounted (disk.faults was) (disk.faults is) history
   pub stands : IsTrue disk.told → HasStore (disk.files was 0)
   pub ends : (ending ≡ Done) ⊎ (ending ≡ NoMemory)
   pub lines_are : lines ≡ made ++ left
   pub all_made : ending ≡ Done → left ≡ []
   pub in_order : InOrder [] made history
   pub text_is : text history ≡ printed ++ unprinted
-  pub wrote : Appends old new printed
+  pub wrote : Appends old.written new.written printed
   pub all_printed : refused ≡ false → ending ≡ Done → unprinted ≡ []
-  pub sound : refused ≡ false → has ≡ had
-  pub rose : refused ≡ true → Rose had has
+  pub sound : refused ≡ false → new.faults ≡ old.faults
+  pub rose : refused ≡ true → Rose old.faults new.faults
 
--- want of memory, or a fault of an end
+-- out of memory, or a fault of a stream
 abbrev pub IsFree : ℕ → Type 0
 IsFree status = (status ≡ 3) ⊎ ((status ≡ 4) ⊎ (status ≡ 5))
 
--- Statuses 9 and 13 come just where the script has a bad line or is too long, but for want of memory and faults of the
--- ends: 3, 4 and 5.
+-- Statuses 9 and 13 come just where the script has a bad line or is too long, but for out of memory and faults of the
+-- streams: 3, 4 and 5.
 pub record RefusesScript (script : List ℕ) (status : ℕ) : Type 0 where
   pub bad : status ≡ 9 → (length script ≤ SCRIPT_BYTES) × IsErr (script_of CLIENTS script)
   pub long : status ≡ 13 → SCRIPT_BYTES < length script
@@ -192,15 +233,15 @@ pub record RefusesScript (script : List ℕ) (status : ℕ) : Type 0 where
 abbrev pub IsFreeOfDisk : ℕ → Type 0
 IsFreeOfDisk status = IsFree status ⊎ (status ≡ 6)
 
--- Where the script is good, statuses 7 and 8 come just where the file has no store, or one that is damaged, but for want of memory
--- and faults of the ends and the disk.
+-- Where the script is good, statuses 7 and 8 come just where the file has no store, or one that is damaged, but for out of memory
+-- and faults of the streams and the disk.
 pub record RefusesStore (file : List ℕ) (status : ℕ) : Type 0 where
   pub no_store : status ≡ 7 → HasNoStore file
-  pub damaged : status ≡ 8 → (at : ℕ) × IsDamagedHalf file at
+  pub damaged : status ≡ 8 → (at : ℕ) × IsDamagedStore file at
   pub from_none : HasNoStore file → (status ≡ 7) ⊎ IsFreeOfDisk status
-  pub from_damaged : (at : ℕ) → IsDamagedHalf file at → (status ≡ 8) ⊎ IsFreeOfDisk status
+  pub from_damaged : (at : ℕ) → IsDamagedStore file at → (status ≡ 8) ⊎ IsFreeOfDisk status
 
--- status 7 of `init` comes just where the file has a store, but for want of memory and faults of the sink and the disk
+-- status 7 of `init` comes just where the file has a store, but for out of memory and faults of the sink and the disk
 pub record RefusesInit (file : List ℕ) (status : ℕ) : Type 0 where
   pub exists : status ≡ 7 → (settings : Settings) × HasSettings file settings
   pub from_store : (settings : Settings) → HasSettings file settings → (status ≡ 7) ⊎ IsFreeOfDisk status

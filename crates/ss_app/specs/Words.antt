@@ -22,7 +22,7 @@ use Rattle.ss_app.specs.declared.words.Key.TheVariants as key
 use Rattle.ss_app.specs.declared.words.Settings.{Settings}
 use Rattle.ss_script.specs.Fields.{is_number}
 
--- the number of a value, where it is of the form and within these bounds
+-- the number of a value, where it is valid and within these bounds
 unfoldable pub number_within : ℕ → ℕ → List ℕ → Option ℕ
 number_within least most value =
     let n = digits_value 10 value in
@@ -52,7 +52,7 @@ abbrev pub once : {T : Type 0} → Option T → Option T → Option T
 once None value = value
 once (Some before) value = None
 
--- the settings with the value of one key more, where it is of the form and within the key's range
+-- the settings with the value of one key more, where it is valid and within the key's range
 unfoldable pub with_value : Settings → Key → List ℕ → Option Settings
 with_value s key.Mode value = option_map (λ m. record s { mode = Some m }) (once s.mode (mode_of value))
 with_value s key.Depth value = option_map (λ n. record s { depth = Some n }) (once s.depth (number_within 0 (2 ^ 62) value))
@@ -61,7 +61,7 @@ with_value s key.Batch value = option_map (λ n. record s { batch = Some n }) (o
 with_value s key.Rows value = option_map (λ n. record s { rows = Some n }) (once s.rows (number_within 1 (2 ^ 32 - 1) value))
 with_value s key.Limit value = option_map (λ n. record s { limit = Some n }) (once s.limit (number_within 65536 (2 ^ 40) value))
 
--- the settings with one word more, where it is of the form
+-- the settings with one word more, where it is valid
 unfoldable pub with_word : Settings → List ℕ → Option Settings
 with_word s word = option_and_then (λ parts. option_and_then (λ k. with_value s k parts.1) (key_of parts.0)) (key_and_value word)
 
@@ -69,7 +69,7 @@ with_word s word = option_and_then (λ parts. option_and_then (λ k. with_value 
 abbrev pub no_settings : Settings
 no_settings = record { mode = None; depth = None; threshold = None; batch = None; rows = None; limit = None }
 
--- the settings with words more, of which the first has this place, or the place of the first that is not of the form
+-- the settings with words more, of which the first has this place, or the place of the first that is invalid
 abbrev pub settings_from : ℕ → Settings → List (List ℕ) → Result Settings ℕ
 settings_from place s [] = Ok s
 settings_from place s (word ∷ words) = option_map_or (λ more. settings_from (place + 1) more words) (with_word s word) (Err place)
@@ -100,7 +100,7 @@ abbrev pub alone : Command → ℕ → List (List ℕ) → Result Command ℕ
 alone command place [] = Ok command
 alone command place (word ∷ words) = Err place
 
--- The command of these words, or the place of the first that is not of the form: the number of words where one is missing.
+-- The command of these words, or the place of the first that is invalid: the number of words where one is missing.
 -- A word behind `trace` is at fault, but `--help` and `--version` are themselves no commands unless they stand alone.
 abbrev pub command_of : List (List ℕ) → Result Command ℕ
 command_of [] = Err 0

@@ -6,8 +6,8 @@ ghost use Rattle.ss_io.specs.Written.{PutAppends};
 ghost use Rattle.ss_script.specs.Text.{numbers_text};
 ghost use Rattle.ss_app.specs.Ending.{status_of, line_of};
 
-use crate::store::OpenFault;
 use ss_io::{Failed, ReadAllFault, Sink};
+use ss_open::OpenFault;
 use ss_script::{ScriptFault, ScriptKind, put_numbers};
 
 /// How a run ends, but for a sink that failed.
@@ -15,9 +15,9 @@ use ss_script::{ScriptFault, ScriptKind, put_numbers};
 pub enum Ending {
     /// All was done.
     Done,
-    /// The word at this place, from 0, is not of the form; where one is missing, their number.
+    /// The word at this place, from 0, is invalid; where one is missing, their number.
     Usage { word: usize },
-    /// Memory was wanting.
+    /// There was not enough memory.
     NoMemory,
     /// The source failed.
     ReadFault,
@@ -27,8 +27,8 @@ pub enum Ending {
     NoStore,
     /// The disk has a store already.
     StoreExists,
-    /// A file is damaged: `at` is the place of the gate of the first record at fault; or 14, that of the settings, where no
-    /// record is at fault and more blocks are hot than the settings allow.
+    /// A file is damaged: `at` is the offset of the gate of the first record at fault; or 14, that of the settings, where no
+    /// record is at fault and more blocks are kept than the settings allow.
     Damaged { file: u8, at: u64 },
     /// The line of the script is at fault.
     BadScript { line: u32, kind: ScriptKind },

@@ -1,36 +1,36 @@
-//! The top call.
+//! A run of the program, over any source, sink and disk.
 
-ghost use Rattle.std.specs.Prelude.{◌≡◌, ◌<◌, ◌+◌, ◌-◌, ◌^◌, ◌≤◌, ℕ, List, [], ◌∷◌, ◌++◌, Option, replicate, map, string_bytes, false, Ok, Some, IsErr, IsTrue, IfOk, All, ◌⊎◌};
-ghost use Rattle.ss_disk.specs.Disk.{Rose as DiskRose};
-ghost use Rattle.ss_disk.specs.Calls.{Touches};
+ghost use Rattle.std.specs.Prelude.{◌≡◌, ◌⊎◌, ◌∷◌, ◌++◌, ◌+◌, ◌^◌, ◌<◌, [], ℕ, List, false, map, Ok, IsErr, IsTrue, Option, Some, string_bytes};
 ghost use Rattle.ss_records.specs.declared.record.Config.{Config as Settings};
 ghost use Rattle.ss_records.specs.Record.{SettingsFit};
+ghost use Rattle.ss_io.specs.Causes.{HasCause};
+ghost use Rattle.ss_io.specs.Written.{PutAppends};
+ghost use Rattle.ss_records.specs.declared.record.Record.{Record};
 ghost use Rattle.ss_model.specs.State.{State};
-ghost use Rattle.ss_model.specs.Lawful.{Lawful, After, is_disk_fault};
-ghost use Rattle.ss_io.specs.Causes.{Rose};
 ghost use Rattle.ss_model.specs.declared.call.Entry.{Entry};
 ghost use Rattle.ss_script.specs.declared.line.Line.{Line};
 ghost use Rattle.ss_script.specs.Text.{entry_text};
 ghost use Rattle.ss_script.specs.Views.{AreViews, resolved, views_of};
+ghost use Rattle.ss_core.specs.Calls.{Steps, Makes};
+ghost use Rattle.ss_core.specs.StandsFor.{StandsFor};
 ghost use Rattle.ss_app.specs.declared.words.Command.TheVariants as command;
-ghost use Rattle.ss_app.specs.Ending.{status_of, status_after, line_of};
-ghost use Rattle.ss_app.specs.Opening.{HasNoStore};
-ghost use Rattle.ss_app.specs.Outcome.{Says, Made, Traced, Inited, Ran, RefusesScript, RefusesStore, RefusesInit, IsValidTrace, AsksFor};
+ghost use Rattle.ss_app.specs.Ending.{status_of, line_of};
+ghost use Rattle.ss_app.specs.Outcome.{Says, Reads, CallsMade, Traced, Inited, Ran, TellsFaults, RefusesScript, RefusesStore, RefusesInit, IsValidTrace, IsValidInit, AsksFor};
 ghost use Rattle.ss_app.specs.Printing.{PrintsUnless};
 ghost use Rattle.ss_app.specs.Progress.{Progress, Stepped, Story};
-ghost use Rattle.ss_app.specs.Room.{OfFullLog, HadRoom, doubt_after, end_after, reaches_disk};
-ghost use Rattle.ss_app.specs.Stands.{Serves};
 ghost use Rattle.ss_app.specs.Words.{command_of};
+ghost use Rattle.ss_app.specs.World.{input, output, world};
 
 use crate::SCRIPT_BYTES;
 use crate::ending::Ending;
 use crate::help::{HELP, VERSION};
-use crate::store::{Store, init};
 use crate::words::{Command, command_of};
 use ss_cid::NoMemory;
+use ss_core::SplitCore;
 use ss_disk::Disk;
 use ss_io::{Failed, Sink, Source, read_all};
 use ss_model::Entry;
+use ss_open::{init, open};
 use ss_records::Config;
 use ss_script::{CLIENTS, Line, Lines, Views, read_script, write_entry};
 use std::alloc::Global;
@@ -50,25 +50,25 @@ pub struct Exit<D> {
 /// Does what the words of the command line ask for, and answers the status that the program ends with.
 ///
 /// `init` makes a store on the disk. `trace` reads a script from the source, makes its calls on the store of the disk, and writes a
-/// line for each. `--help` and `--version` write what they name. A word that is not of the form is found before anything else, a
+/// line for each. `--help` and `--version` write what they name. An invalid word is found before anything else, a
 /// source that fails or holds more than `SCRIPT_BYTES` before a bad line, a bad line before the disk is touched, and what is wrong
-/// with the store before any call is made. A call that fails, for want of memory, of room or of a working disk, is an entry like
+/// with the store before any call is made. A call that fails, out of memory, of room or for a fault of the disk, is an entry like
 /// any other.
 ///
 /// `trace` changes no file but that of the hot log, and none before its first call. `init` changes none where there is a store;
-/// where there is none, files may be emptied on status 3, and the store may be made on 5 and 6. Statuses:
+/// where there is none, files may be emptied on status 6, and the store may be made on 5 and 6. Statuses:
 ///
 /// | status | why |
 /// |---|---|
 /// | 0 | all was done and all is written |
-/// | 2 | a word is not of the form |
-/// | 3 | memory was wanting |
+/// | 2 | a word is invalid |
+/// | 3 | there was not enough memory |
 /// | 4 | the source failed |
 /// | 5 | the sink failed; all else was done that the run would have done |
 /// | 6 | the disk failed while the store was opened or made |
 /// | 7 | the disk has no store, or for `init` it has one |
 /// | 8 | a file of the store is damaged |
-/// | 9 | a line of the script is not of the form |
+/// | 9 | a line of the script is invalid |
 /// | 13 | the script is too long |
 pub fn run_alone<S: Source, K: Sink, D: Disk>(
     alloc: Global,
@@ -77,158 +77,155 @@ pub fn run_alone<S: Source, K: Sink, D: Disk>(
     sink: &mut K,
     disk: D,
 ) -> Exit<D>
-    ensures run { Ran (command_of (map string_bytes words.now)) D.Disk disk result.disk (S.left source.old) (S.left source.new) (S.faults source.old) (S.faults source.new) (K.written sink.old) (K.written sink.new) (K.faults sink.old) (K.faults sink.new) result.status }
+    ensures run { Ran (command_of (map string_bytes words.now)) D.Disk (world S.Source K.Sink source.old sink.old disk) (world S.Source K.Sink source.new sink.new result.disk) result.status }
 
-    // A fault is answered only where the end or the disk counted it.
-    ensures read_fault { result.status ≡ 4 → Rose (S.faults source.old) (S.faults source.new) }
-    ensures write_fault { result.status ≡ 5 → Rose (K.faults sink.old) (K.faults sink.new) }
-    ensures disk_fault { result.status ≡ 6 → DiskRose (D.faults disk) (D.faults result.disk) }
+    // A fault is answered just where the stream or the disk counted it.
+    ensures faults { TellsFaults D.Disk (world S.Source K.Sink source.old sink.old disk) (world S.Source K.Sink source.new sink.new result.disk) result.status }
 
-    // The refusals come just where the words, the script and the files call for them, but for want of memory and faults.
+    // The refusals come just where the words, the script and the files call for them, but for out of memory and faults.
     ensures usage { (result.status ≡ 2 → IsErr (command_of (map string_bytes words.now))) × (IsErr (command_of (map string_bytes words.now)) → (result.status ≡ 2) ⊎ (result.status ≡ 5)) }
     ensures script { (script : List ℕ) → command_of (map string_bytes words.now) ≡ Ok command.Trace → S.left source.old ≡ Some script → RefusesScript script result.status }
     ensures store { (script : List ℕ) (lines : List Line) → command_of (map string_bytes words.now) ≡ Ok command.Trace → S.left source.old ≡ Some script → AsksFor script lines → IsTrue D.told → RefusesStore (D.files disk 0) result.status }
     ensures init { (settings : Settings) → command_of (map string_bytes words.now) ≡ Ok (command.Init settings) → IsTrue D.told → RefusesInit (D.files disk 0) result.status }
-    ensures complete { (script : List ℕ) (lines : List Line) → command_of (map string_bytes words.now) ≡ Ok command.Trace → IsValidTrace D.Disk disk result.disk (S.left source.old) (S.faults source.old) (S.faults source.new) (K.faults sink.old) (K.faults sink.new) script lines → (result.status ≡ 0) ⊎ (result.status ≡ 3) }
-    ensures complete_init { (settings : Settings) → command_of (map string_bytes words.now) ≡ Ok (command.Init settings) → IsTrue D.told → HasNoStore (D.files disk 0) → ¬ Rose (K.faults sink.old) (K.faults sink.new) → ¬ DiskRose (D.faults disk) (D.faults result.disk) → (result.status ≡ 0) ⊎ (result.status ≡ 3) }
+    ensures complete { (script : List ℕ) (lines : List Line) → command_of (map string_bytes words.now) ≡ Ok command.Trace → IsValidTrace D.Disk (world S.Source K.Sink source.old sink.old disk) (world S.Source K.Sink source.new sink.new result.disk) script lines → (result.status ≡ 0) ⊎ (result.status ≡ 3) }
+    ensures complete_init { (settings : Settings) → command_of (map string_bytes words.now) ≡ Ok (command.Init settings) → IsValidInit D.Disk (world S.Source K.Sink source.old sink.old disk) (world S.Source K.Sink source.new sink.new result.disk) → (result.status ≡ 0) ⊎ (result.status ≡ 3) }
 {
-    let mut disk = disk;
-    let status = status_after(run_command(alloc, words, source, sink, &mut disk));
-    Exit { status, disk }
+    run_command(alloc, command_of(words), source, sink, disk)
 }
 
-// The status of a run: its ending's, or that of a sink that failed.
-fn status_after(ended: Result<Ending, Failed>) -> u8
-    ensures { result ≡ status_after ended }
+// Does what a command says, or tells which word is invalid.
+fn run_command<S: Source, K: Sink, D: Disk>(
+    alloc: Global,
+    asked: Result<Command, usize>,
+    source: &mut S,
+    sink: &mut K,
+    disk: D,
+) -> Exit<D>
+    requires fits { (settings : Settings) → asked ≡ Ok (command.Init settings) → SettingsFit settings }
+    ensures { Ran asked D.Disk (world S.Source K.Sink source.old sink.old disk) (world S.Source K.Sink source.new sink.new result.disk) result.status }
 {
-    match ended {
-        Ok(ending) => ending.status(),
+    match asked {
+        Ok(Command::Init(config)) => make(alloc, config, source, sink, disk),
+        Ok(Command::Trace) => trace(alloc, source, sink, disk),
+        Ok(Command::Help) => Exit {
+            status: say(sink, HELP),
+            disk,
+        },
+        Ok(Command::Version) => Exit {
+            status: say(sink, VERSION),
+            disk,
+        },
+        Err(word) => Exit {
+            status: finish(sink, Ending::Usage { word }),
+            disk,
+        },
+    }
+}
+
+// Writes a text, flushes the sink, and gives the status of the run.
+fn say<K: Sink>(sink: &mut K, text: &str) -> u8
+    ensures { Says (output K.Sink sink.old) (output K.Sink sink.new) text.now 0 result }
+{
+    match sink.put(text.as_bytes()) {
+        Ok(()) => finish(sink, Ending::Done),
         Err(Failed) => WRITE_FAULT,
     }
 }
 
-fn run_command<S: Source, K: Sink, D: Disk>(
-    alloc: Global,
-    words: &[String],
-    source: &mut S,
-    sink: &mut K,
-    disk: &mut D,
-) -> Result<Ending, Failed>
-    ensures { Ran (command_of (map string_bytes words.now)) D.Disk disk.old disk.new (S.left source.old) (S.left source.new) (S.faults source.old) (S.faults source.new) (K.written sink.old) (K.written sink.new) (K.faults sink.old) (K.faults sink.new) (status_after result) }
+// Writes the line of an ending, flushes the sink, and gives the status of the run.
+fn finish<K: Sink>(sink: &mut K, ending: Ending) -> u8
+    ensures { Says (output K.Sink sink.old) (output K.Sink sink.new) (line_of ending) (status_of ending) result }
 {
-    match command_of(words) {
-        Ok(Command::Init(config)) => make(alloc, &config, sink, disk),
-        Ok(Command::Trace) => trace(alloc, source, sink, disk),
-        Ok(Command::Help) => say(sink, HELP),
-        Ok(Command::Version) => say(sink, VERSION),
-        Err(word) => finish(sink, Ending::Usage { word }),
+    match put_ending(sink, ending) {
+        Ok(()) => ending.status(),
+        Err(Failed) => WRITE_FAULT,
     }
 }
 
-// Writes a text, and flushes the sink.
-fn say<K: Sink>(sink: &mut K, text: &str) -> Result<Ending, Failed>
-    ensures { Says (K.written sink.old) (K.written sink.new) (K.faults sink.old) (K.faults sink.new) text.now 0 (status_after result) }
+fn put_ending<K: Sink>(sink: &mut K, ending: Ending) -> Result<(), Failed>
+    ensures bytes { PutAppends (K.written sink.old) (K.written sink.new) result (line_of ending) }
+    ensures cause { HasCause (K.faults sink.old) (K.faults sink.new) result }
 {
-    sink.put(text.as_bytes())?;
-    finish(sink, Ending::Done)
+    ending.put_line(sink)?;
+    sink.flush()
 }
 
 // Makes a store.
-fn make<K: Sink, D: Disk>(
+fn make<S: Source, K: Sink, D: Disk>(
     alloc: Global,
-    config: &Config,
+    config: Config,
+    source: &mut S,
     sink: &mut K,
-    disk: &mut D,
-) -> Result<Ending, Failed>
-    requires { SettingsFit config.now }
-    ensures { Inited D.Disk disk.old disk.new config.now (K.written sink.old) (K.written sink.new) (K.faults sink.old) (K.faults sink.new) (status_after result) }
+    disk: D,
+) -> Exit<D>
+    requires { SettingsFit config }
+    ensures { Inited D.Disk (world S.Source K.Sink source.old sink.old disk) (world S.Source K.Sink source.new sink.new result.disk) config result.status }
 {
     match init(alloc, disk, config) {
-        Ok(()) => say(sink, "store made\n"),
-        Err(fault) => finish(sink, Ending::from(fault)),
+        Ok(core) => Exit {
+            status: say(sink, "store made\n"),
+            disk: core.into_disk(),
+        },
+        Err((fault, disk)) => Exit {
+            status: finish(sink, Ending::from(fault)),
+            disk,
+        },
     }
-}
-
-// Writes the line of an ending and flushes the sink.
-fn finish<K: Sink>(sink: &mut K, ending: Ending) -> Result<Ending, Failed>
-    ensures { Says (K.written sink.old) (K.written sink.new) (K.faults sink.old) (K.faults sink.new) (line_of ending) (status_of ending) (status_after result) }
-{
-    ending.put_line(sink)?;
-    sink.flush()?;
-    Ok(ending)
 }
 
 // A run of a script: its store, the views of its clients, how many entries were made, and whether the sink has refused a
 // line. From then on nothing is printed, and the calls that are left are still made.
-#[derive(Debug, Drop)]
-struct Session {
-    store: Store,
+#[derive(Drop)]
+struct Session<D: Disk> {
+    core: SplitCore<D>,
     views: Views,
     place: u64,
     refused: bool,
 }
 
-impl Session {
-    fn new(alloc: Global, store: Store) -> Result<Session, NoMemory>
-        ensures { IfOk result (λ s. (s.store.hot ≡ store.hot) × (s.store.views ≡ store.views) × AreViews s.views [] × (s.place ≡ 0) × (s.refused ≡ false)) }
-    {
-        Ok(Session {
-            store,
-            views: Views::new(alloc)?,
-            place: 0,
-            refused: false,
-        })
-    }
-
+impl<D: Disk> Session<D> {
     // Makes the call of a line and prints its entry.
-    fn step<K: Sink, D: Disk>(
-        &mut self,
-        alloc: Global,
-        sink: &mut K,
-        disk: &mut D,
-        line: Line,
-    ) -> Result<(), NoMemory>
+    fn step<K: Sink>(&mut self, alloc: Global, sink: &mut K, line: Line) -> Result<(), NoMemory>
         requires place { self.old.place < 2 ^ 63 }
-        requires known { self.old.store.hot.log.end + 1 ≤ D.known disk.old 0 }
-        ensures step { (was : _) (made : List Line) (old : Option (List ℕ)) (had : ℕ) → Progress D.Disk was disk.old self.old.store.hot self.old.store.views self.old.views self.old.place self.old.refused made old (K.written sink.old) had (K.faults sink.old) → Stepped D.Disk was disk.new self.new.store.hot self.new.store.views self.new.views self.new.place self.new.refused (made ++ line ∷ []) old (K.written sink.new) had (K.faults sink.new) result }
+        ensures step { (was : _) (made : List Line) (old : _) → Progress was self.old.core self.old.views self.old.place self.old.refused made old (output K.Sink sink.old) → Stepped was self.new.core self.new.views self.new.place self.new.refused (made ++ line ∷ []) old (output K.Sink sink.new) result }
         ensures place { self.new.place ≡ self.old.place + 1 }
-        ensures known { self.new.store.hot.log.end + 1 ≤ D.known disk.new 0 }
     {
-        let entry = make_call(alloc, &mut self.store, &self.views, disk, line);
+        let entry = make_call(alloc, &mut self.core, &self.views, line);
         self.place += 1;
         self.refused = print(alloc, sink, self.refused, self.place, &entry);
         self.views.record(&entry)
     }
+
+    // What came of the calls that were made.
+    fn ended(self, ending: Ending) -> Calls<D>
+        ensures { result ≡ record { ending = ending; refused = self.refused; disk = self.core.disk } }
+    {
+        let Session {
+            core,
+            views: _,
+            place: _,
+            refused,
+        } = self;
+        Calls {
+            ending,
+            refused,
+            disk: core.into_disk(),
+        }
+    }
 }
 
 // Makes the call of a line.
-fn make_call<D: Disk>(
-    alloc: Global,
-    store: &mut Store,
-    views: &Views,
-    disk: &mut D,
-    line: Line,
-) -> Entry
-    requires { store.old.hot.log.end + 1 ≤ D.known disk.old 0 }
+fn make_call<D: Disk>(alloc: Global, core: &mut SplitCore<D>, views: &Views, line: Line) -> Entry
     ensures client { result.client ≡ line.client }
     ensures line { result.line ≡ line.line }
     ensures call { (before : List Entry) → AreViews views.now before → result.call ≡ resolved (views_of line.client before) line.call }
-    ensures lawful { (s : State) → IsTrue D.told → Serves D.Disk disk.old store.old.hot store.old.views s → Lawful s result.call result.answer }
-    ensures after { (s : State) → IsTrue D.told → Serves D.Disk disk.old store.old.hot store.old.views s → Serves D.Disk disk.new store.new.hot store.new.views (After s result.call result.answer) }
-    ensures end { (s : State) → IsTrue D.told → Serves D.Disk disk.old store.old.hot store.old.views s → store.new.hot.log.end ≡ end_after s store.old.hot.log.end result.call result.answer }
-    ensures room { OfFullLog (λ file need room. (file ≡ 0) × (room ≡ store.old.hot.settings.limit - 1 - store.old.hot.log.end)) result.answer }
-    ensures fits { (s : State) → IsTrue D.told → Serves D.Disk disk.old store.old.hot store.old.views s → HadRoom s store.old.hot.log.end result.call result.answer }
-    ensures known { store.new.hot.log.end + 1 ≤ D.known disk.new 0 }
-    ensures fault { IsTrue (is_disk_fault result.answer) → DiskRose (D.faults disk.old) (D.faults disk.new) }
-    ensures settings { store.new.hot.settings ≡ store.old.hot.settings }
-    ensures doubt { doubt_after store.old.hot.log.unsure result.call result.answer ≡ false → store.new.hot.log.unsure ≡ false }
-    ensures still { reaches_disk result.call result.answer ≡ false → disk.new ≡ disk.old }
-    ensures touches { Touches D.Disk 0 disk.old disk.new }
+    ensures told { IsTrue D.told → (s : State) (doubt : Option Record) → StandsFor core.old s doubt → Steps core.old core.new s doubt result.call result.answer }
+    ensures made { Makes core.old core.new result.call result.answer }
 {
     let client = line.client;
     let number = line.line;
     let call = views.resolve(line);
-    let answer = store.call(alloc, disk, &call);
+    let answer = core.call(alloc, &call);
     Entry {
         client,
         line: number,
@@ -237,49 +234,57 @@ fn make_call<D: Disk>(
     }
 }
 
-// What came of the calls: how they ended, and whether the sink refused a line.
-#[derive(Clone, Copy, Debug)]
-struct Calls {
+// What came of the calls: how they ended, whether the sink refused a line, and the disk.
+#[derive(Debug, Drop)]
+struct Calls<D> {
     ending: Ending,
     refused: bool,
+    disk: D,
 }
 
 // Makes the calls of the lines, in order, and prints each entry as it is made.
 fn make_calls<K: Sink, D: Disk>(
     alloc: Global,
-    store: Store,
+    core: SplitCore<D>,
     lines: Lines,
     sink: &mut K,
-    disk: &mut D,
-) -> Calls
-    requires { store.hot.log.end + 1 ≤ D.known disk.old 0 }
-    ensures { (was : _) → Story D.Disk was disk.old store.hot store.views [] → Made D.Disk was disk.new lines (K.written sink.old) (K.written sink.new) (K.faults sink.old) (K.faults sink.new) result.ending result.refused }
+) -> Calls<D>
+    ensures { (was : _) → Story was core [] → CallsMade D.Disk was result.disk lines (output K.Sink sink.old) (output K.Sink sink.new) result.ending result.refused }
 {
-    let Ok(mut session) = Session::new(alloc, store) else {
+    let Ok(views) = Views::new(alloc) else {
         return Calls {
             ending: Ending::NoMemory,
             refused: false,
+            disk: core.into_disk(),
         };
     };
+    let mut session = Session {
+        core,
+        views,
+        place: 0,
+        refused: false,
+    };
     for line in lines {
-        if let Err(NoMemory) = session.step(alloc, sink, disk, line) {
-            return Calls {
-                ending: Ending::NoMemory,
-                refused: session.refused,
-            };
+        if let Err(NoMemory) = session.step(alloc, sink, line) {
+            return session.ended(Ending::NoMemory);
         }
     }
-    Calls {
-        ending: Ending::Done,
-        refused: session.refused,
-    }
+    session.ended(Ending::Done)
 }
 
 // Prints an entry, unless the sink has refused a line before, and tells whether it has now.
 fn print<K: Sink>(alloc: Global, sink: &mut K, refused: bool, place: u64, entry: &Entry) -> bool
-    ensures { PrintsUnless refused (K.written sink.old) (K.written sink.new) (K.faults sink.old) (K.faults sink.new) result (entry_text place entry.now) }
+    ensures { PrintsUnless refused (output K.Sink sink.old) (output K.Sink sink.new) result (entry_text place entry.now) }
 {
     refused || write_entry(alloc, sink, place, entry).is_err()
+}
+
+// Reads the lines of a script, or tells how the run ends.
+fn read_lines<S: Source>(alloc: Global, source: &mut S) -> Result<Lines, Ending>
+    ensures { Reads (input S.Source source.old) (input S.Source source.new) result }
+{
+    let text = read_all(alloc, source, SCRIPT_BYTES)?;
+    Ok(read_script(alloc, text.as_slice(), CLIENTS)?)
 }
 
 // Reads the script, opens the store and makes the calls.
@@ -287,25 +292,33 @@ fn trace<S: Source, K: Sink, D: Disk>(
     alloc: Global,
     source: &mut S,
     sink: &mut K,
-    disk: &mut D,
-) -> Result<Ending, Failed>
-    ensures { Traced D.Disk disk.old disk.new (S.left source.old) (S.left source.new) (S.faults source.old) (S.faults source.new) (K.written sink.old) (K.written sink.new) (K.faults sink.old) (K.faults sink.new) (status_after result) }
+    disk: D,
+) -> Exit<D>
+    ensures { Traced D.Disk (world S.Source K.Sink source.old sink.old disk) (world S.Source K.Sink source.new sink.new result.disk) result.status }
 {
-    let text = match read_all(alloc, source, SCRIPT_BYTES) {
-        Ok(text) => text,
-        Err(fault) => return finish(sink, Ending::from(fault)),
-    };
-    let lines = match read_script(alloc, text.as_slice(), CLIENTS) {
+    let lines = match read_lines(alloc, source) {
         Ok(lines) => lines,
-        Err(fault) => return finish(sink, Ending::from(fault)),
+        Err(ending) => {
+            let status = finish(sink, ending);
+            return Exit { status, disk };
+        }
     };
-    let store = match Store::open(alloc, disk) {
-        Ok(store) => store,
-        Err(fault) => return finish(sink, Ending::from(fault)),
+    let core = match open(alloc, disk) {
+        Ok(core) => core,
+        Err((fault, disk)) => {
+            let status = finish(sink, Ending::from(fault));
+            return Exit { status, disk };
+        }
     };
-    let calls = make_calls(alloc, store, lines, sink, disk);
+    let calls = make_calls(alloc, core, lines, sink);
     if calls.refused {
-        return Err(Failed);
+        return Exit {
+            status: WRITE_FAULT,
+            disk: calls.disk,
+        };
     }
-    finish(sink, calls.ending)
+    Exit {
+        status: finish(sink, calls.ending),
+        disk: calls.disk,
+    }
 }

@@ -32,7 +32,7 @@ pub(crate) enum Command {
     Version,
 }
 
-/// The command of these words, or the place of the first word, counted from 0, that is not of the form; the number of words
+/// The command of these words, or the place of the first word, counted from 0, that is invalid; the number of words
 /// where one is missing.
 pub(crate) fn command_of(words: &[String]) -> Result<Command, usize>
     ensures command { result ≡ command_of (map string_bytes words.now) }
@@ -76,7 +76,7 @@ fn init(words: &[String]) -> Result<Command, usize>
     }
 }
 
-// The settings of the words behind `init`, or the place of the first that is not of the form.
+// The settings of the words behind `init`, or the place of the first that is invalid.
 fn read_settings(words: &[String]) -> Result<Settings, usize>
     ensures { result ≡ settings_from 1 no_settings (map string_bytes words.now) }
 {
@@ -136,7 +136,7 @@ impl Settings {
     ghost use Rattle.std.specs.Prelude.{◌≡◌};
     ghost use Rattle.ss_app.specs.Words.{with_word, with_value, config_of};
 
-    // The settings with one word more, where it is of the form.
+    // The settings with one word more, where it is valid.
     #[tactic(auto, unfolding(crate::specs::Words::with_word))]
     fn with_word(self, word: &str) -> Option<Settings>
         ensures { result ≡ with_word self word.now }
@@ -145,7 +145,7 @@ impl Settings {
         self.with_value(Key::of(name)?, value)
     }
 
-    // The settings with the value of a key that has none yet, where it is of the form.
+    // The settings with the value of a key that has none yet, where it is valid.
     #[tactic(auto, unfolding(crate::specs::Words::with_value))]
     fn with_value(mut self, key: Key, value: &str) -> Option<Settings>
         ensures { result ≡ with_value self key value.now }

@@ -28,7 +28,7 @@ pub(crate) fn write_synced<D: Disk>(
 /// Syncs a file and tells its size in bytes. After `Ok` each image now has the file as a read gives it.
 ///
 /// `DiskFault` may be of the sync or of the size; no byte changes.
-pub fn synced_size<D: Disk>(disk: &mut D, file: u8) -> Result<u64, DiskFault>
+pub(crate) fn synced_size<D: Disk>(disk: &mut D, file: u8) -> Result<u64, DiskFault>
     requires { file < 6 }
     ensures goes { Goes D.Disk Same disk.old disk.new }
     ensures length { IsTrue D.told → IfOk result (λ size. size ≡ length (D.files disk.old file)) }

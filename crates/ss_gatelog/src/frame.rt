@@ -4,7 +4,7 @@ ghost use Rattle.ss_gatelog.specs.Log.{longest_body, length_bytes};
 ghost use Rattle.ss_gatelog.specs.GateLog.{body_of};
 
 /// The gate of a committed record, one byte. A gate is closed where its byte is any other.
-pub const OPEN: u8 = 0xa5;
+pub(crate) const OPEN: u8 = 0xa5;
 
 /// The gate that the writer closes with.
 pub(crate) const CLOSED: u8 = 0x00;
@@ -13,7 +13,7 @@ pub(crate) const CLOSED: u8 = 0x00;
 pub const HEAD: u64 = 5;
 
 /// The most bytes of a record's body: 16 MiB.
-pub const LONGEST_BODY: u32 = 16_777_216;
+pub(crate) const LONGEST_BODY: u32 = 16_777_216;
 
 /// Writes the length of the body before it, and a closed gate behind it.
 pub(crate) fn seal(frame: &mut [u8])
@@ -29,7 +29,7 @@ pub(crate) fn seal(frame: &mut [u8])
 }
 
 /// The length that the four bytes behind a gate spell, the most significant first.
-pub fn length_of(bytes: &[u8; 4]) -> u32
+pub(crate) fn length_of(bytes: &[u8; 4]) -> u32
     ensures { length_bytes result ≡ bytes.now }
 {
     u32::from_be_bytes(*bytes)

@@ -35,8 +35,7 @@ mod skim;
 mod tests;
 mod window;
 
-pub use device::synced_size;
 pub use fault::{LogFault, RecordsFault};
-pub use frame::{HEAD, LONGEST_BODY, OPEN, length_of};
+pub use frame::HEAD;
 pub use log::GateLog;
 pub use records::Records;

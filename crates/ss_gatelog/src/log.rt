@@ -224,6 +224,13 @@ impl GateLog {
         Ok(())
     }
 
+    /// The number of the log's file.
+    pub fn file(&self) -> u8
+        ensures { result ≡ self.now.file }
+    {
+        self.file
+    }
+
     /// The place of the first closed gate.
     pub fn end(&self) -> u64
         ensures end { result ≡ self.now.end }

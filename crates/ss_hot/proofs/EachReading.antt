@@ -1,7 +1,6 @@
 -- A file with settings has a list of records, or a first record at fault.
-use Rattle.std.proofs.Common.{◌≡◌, ◌⊎◌, inl, inr, ⊎_elim, ℕ, zero, suc, ◌+◌, ◌-◌, ◌<◌, ◌≤◌, List, [], ◌∷◌, ◌++◌, length, drop, refl, sym, ◌∙◌, ap, subst, arith}
-use Rattle.std.specs.FinMap as finite_map
-use Rattle.std.proofs.lemmas.Bool.{cases_eq, cases_lt}
+use Rattle.std.proofs.Common.{◌≡◌, ◌⊎◌, inl, inr, ⊎_elim, ℕ, zero, suc, ◌+◌, ◌<◌, ◌≤◌, List, [], ◌∷◌, ◌++◌, length, drop, refl, sym, ◌∙◌, ap, subst, arith}
+use Rattle.std.proofs.lemmas.Bool.{cases_eq}
 use Rattle.ss_records.specs.declared.record.Config.{Config as Settings}
 use Rattle.ss_records.specs.declared.record.Record.{Record}
 use Rattle.ss_records.specs.declared.record.Record.TheVariants.{Config}
@@ -10,12 +9,13 @@ use Rattle.ss_records.proofs.Parts.{IsBytes, IsBytes-drop, IsBytes-take}
 use Rattle.ss_records.proofs.Records.{read_takes}
 use Rattle.ss_gatelog.specs.Log.{open_gate, length_bytes, spelled, AreBodies, Fits as FitsGate}
 use Rattle.ss_gatelog.proofs.Steps.{spelled-push, length-spelled-push, bodies_push}
-use Rattle.ss_hot.specs.Half.{bodies, IsInPlace, AreInPlace, hot_blocks}
-use Rattle.ss_hot.specs.File.{settings_gate, HasSettings, IsHalf, IsBad, IsDamagedHalf}
-use Rattle.ss_hot.proofs.Bodies.{body_bytes}
+use Rattle.ss_store.specs.Append.{bodies}
+use Rattle.ss_hot.specs.Half.{IsInPlace, AreInPlace}
+use Rattle.ss_hot.specs.File.{HasSettings, IsHalf, IsBad, IsDamagedHalf}
 use Rattle.ss_hot.proofs.Grown.{bodies-push, AreInPlace-push}
 use Rattle.ss_hot.proofs.Misfits.{read_or_misfit, fits_or_not, fit_body}
-use Rattle.ss_hot.proofs.Settings.{second_body, both_within}
+use Rattle.ss_hot.proofs.Readings.{long_file}
+use Rattle.ss_hot.proofs.Settings.{second_part}
 
 -- good records at the front of a file, and what stands behind them
 record IsFront (limit : ℕ) (file : List ℕ) (front : List Record) (rest : List ℕ) : Type 0 where
@@ -48,14 +48,7 @@ front_next limit file rest more front r leads parts fits stands small some =
 module _ (file : List ℕ) (settings : Settings) (committed : HasSettings file settings) where
   -- what the file stands for
   abbrev Reading : Type 0
-  Reading = ((records : List Record) × IsHalf file settings records × (finite_map.len (hot_blocks records) ≤ settings.rows)) ⊎ ((at : ℕ) × IsDamagedHalf file at)
-
-  -- by its records, of which few or too many are hot
-  counted : (records : List Record) → IsHalf file settings records → Reading
-  counted records half = elim (cases_lt settings.rows (finite_map.len (hot_blocks records))) [
-    | inl many ↦ inr (settings_gate, record { settings = settings; committed = committed; damage = inr ((records, half, many), refl) })
-    | inr few ↦ inl (records, half, few)
-  ]
+  Reading = ((records : List Record) × IsHalf file settings records) ⊎ ((at : ℕ) × IsDamagedHalf file at)
 
   -- an open gate behind good records
   module _ (front : List Record) (rest : List ℕ) (leads : IsFront settings.limit file front (open_gate ∷ rest)) where
@@ -69,7 +62,7 @@ module _ (file : List ℕ) (settings : Settings) (committed : HasSettings file s
       record {
         settings = settings;
         committed = committed;
-        damage = inl (record { front = front; rest = rest; is = leads.is; place = refl; bodies = leads.are; in_place = leads.in_place; within = leads.within; fault = fault });
+        damage = record { front = front; rest = rest; is = leads.is; place = refl; bodies = leads.are; in_place = leads.in_place; within = leads.within; fault = fault };
       },
     )
 
@@ -99,7 +92,7 @@ module _ (file : List ℕ) (settings : Settings) (committed : HasSettings file s
   goes_on (suc fuel) front [] leads enough = absurd (omega (arith, leads.some))
   goes_on (suc fuel) front (gate ∷ rest) leads enough = elim (cases_eq gate open_gate) [
     | inl is_open ↦ opened front rest (subst (λ (b : ℕ). IsFront settings.limit file front (b ∷ rest)) is_open leads) (λ next more then less. goes_on fuel next more then (omega (arith, less, enough)))
-    | inr shut ↦ counted front (record { committed = committed; list = inr (record { spells = record { gate = gate; rest = rest; is = leads.is; closed = shut }; bodies = leads.are; within = leads.within }); in_place = leads.in_place })
+    | inr shut ↦ inl (front, record { committed = committed; list = inr (record { spells = record { gate = gate; rest = rest; is = leads.is; closed = shut }; bodies = leads.are; within = leads.within }); in_place = leads.in_place })
   ]
 
 -- the settings are within their bounds, so the file has a limit
@@ -107,10 +100,7 @@ pub each_reading : (file : List ℕ) (settings : Settings) → IsBytes file → 
 each_reading file settings small committed = goes_on file settings committed (length file) [] file start (omega arith)
   where
     second : IsBytes committed.second
-    second =
-        let at = 5 + length committed.first in
-        let end = at + 5 + length committed.second in
-        subst IsBytes (body_bytes file at committed.second (second_body file settings committed)) (IsBytes-take (end - (at + 5)) (drop (at + 5) file) (IsBytes-drop (at + 5) file small))
+    second = let part = second_part file settings committed in subst IsBytes part.1 (IsBytes-take (length committed.second) (drop part.0 file) (IsBytes-drop part.0 file small))
 
     start : IsFront settings.limit file [] file
     start = record {
@@ -119,5 +109,5 @@ each_reading file settings small committed = goes_on file settings committed (le
       in_place = tt;
       within = omega (arith, (read_takes committed.second (Config settings) second committed.reads).2.limit.0);
       small = small;
-      some = omega (arith, both_within file settings committed);
+      some = omega (arith, long_file file settings committed);
     }

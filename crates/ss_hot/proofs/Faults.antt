@@ -1,26 +1,18 @@
 -- What an answer says of its parts.
-use Rattle.std.proofs.Common.{◌≡◌, ℕ, subst}
-use Rattle.std.specs.Prelude.{Result, Err, Option, None, Some, MatchOption, IfSome}
-use Rattle.ss_hot.specs.declared.fault.StoreFault.{StoreFault}
-use Rattle.ss_hot.specs.declared.fault.StoreFault.TheVariants.{Damaged}
+use Rattle.std.proofs.Common.{◌≡◌, ⊎_elim, ℕ, subst}
+use Rattle.std.specs.Prelude.{Result, Ok, Err, Option, Some, IfSome}
+use Rattle.ss_gatelog.specs.Faults.{CountsFault}
+use Rattle.ss_store.specs.declared.fault.StoreFault.{StoreFault}
+use Rattle.ss_store.specs.declared.fault.StoreFault.TheVariants.{DiskFault, Damaged}
 
--- one damage is told
+-- one damage
 pub one_damaged : (T : Type 0) (file at file' at' : ℕ) → ◌≡◌ {A = Result T StoreFault} (Err (Damaged file at)) (Err (Damaged file' at')) → (file ≡ file') × (at ≡ at')
 one_damaged T file at file' at' is = (cc, cc)
 
--- what is told of an option
-pub at_none : (X P : Type 0) (Q : X → Type 0) (o : Option X) → o ≡ None → MatchOption o P Q → P
-at_none X P Q o is told = subst (λ (x : Option X). MatchOption x P Q) is told
-
-pub at_some : (X P : Type 0) (Q : X → Type 0) (o : Option X) (x : X) → o ≡ Some x → MatchOption o P Q → Q x
-at_some X P Q o x is told = subst (λ (y : Option X). MatchOption y P Q) is told
-
+-- of an option that is known
 pub if_some : (X : Type 0) (Q : X → Type 0) (o : Option X) (x : X) → o ≡ Some x → IfSome o Q → Q x
-if_some X Q o x is told = subst (λ (y : Option X). IfSome y Q) is told
+if_some X Q o x is said = subst (λ (y : Option X). IfSome y Q) is said
 
-pub some_weaker : (X : Type 0) (P Q : X → Type 0) (o : Option X) → ((x : X) → P x → Q x) → IfSome o P → IfSome o Q
-some_weaker X P Q None weaker told = tt
-some_weaker X P Q (Some x) weaker told = weaker x told
-
-pub damaged_parts : (file at file' at' : ℕ) → Damaged file at ≡ Damaged file' at' → (file ≡ file') × (at ≡ at')
-damaged_parts file at file' at' is = (cc, cc)
+-- of a success: no fault was counted
+pub not_risen : {T : Type 0} (before now : ℕ) (x : T) → CountsFault {T = T} DiskFault before now (Ok x) → now ≡ before
+not_risen before now x counts = ⊎_elim (λ is. absurd (let differ : ⊥ = cc (is) in differ)) (λ same. same) counts.kept

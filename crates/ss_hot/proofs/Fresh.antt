@@ -7,7 +7,7 @@ use Rattle.ss_records.specs.declared.record.Record.{Record}
 use Rattle.ss_records.specs.declared.record.Record.TheVariants.{Config, Generation}
 use Rattle.ss_records.specs.Record.{spelling, SettingsFit}
 use Rattle.ss_records.proofs.Records.{read_again}
-use Rattle.ss_hot.specs.Half.{bodies}
+use Rattle.ss_store.specs.Append.{bodies}
 use Rattle.ss_hot.specs.File.{IsHalf}
 use Rattle.ss_hot.proofs.Sizes.{length-Generation, length-Config}
 

@@ -1,16 +1,18 @@
 -- What one record more does to what the records of a half stand for.
-use Rattle.std.proofs.Common.{◌≡◌, ℕ, suc, ◌+◌, ◌-◌, List, [], ◌∷◌, ◌++◌, length, take, refl, sym, ◌∙◌, ap, subst, arith, length-append}
+use Rattle.std.proofs.Common.{◌≡◌, ℕ, suc, ◌+◌, List, [], ◌∷◌, ◌++◌, length, refl, sym, ◌∙◌, ap, subst, arith, length-append}
 use Rattle.std.specs.Prelude.{Option, Some, None}
 use Rattle.std.specs.FinMap as finite_map
-use Rattle.std.proofs.lemmas.List.{take_at}
-use Rattle.ss_gatelog.specs.Log.{spelled, length_bytes}
-use Rattle.ss_gatelog.specs.GateLog.{Log, body_of}
+use Rattle.ss_gatelog.specs.Log.{spelled}
+use Rattle.ss_gatelog.specs.GateLog.{Log}
+use Rattle.ss_gatelog.proofs.Steps.{length-spelled-at}
 use Rattle.ss_records.specs.declared.record.Config.{Config as Settings}
 use Rattle.ss_records.specs.declared.record.Record.{Record}
 use Rattle.ss_records.specs.declared.record.Record.TheVariants.{Config, Generation, Put, Dropped, Head, Base, Start, Cold, Sealed, Copied, Purged}
 use Rattle.ss_records.specs.Record.{frame, spelling, Fits, IsValue}
-use Rattle.ss_hot.specs.declared.place.Place.{Place}
-use Rattle.ss_hot.specs.Half.{CidMap, bodies, MayStand, IsInPlace, AreInPlace, settings_from, settings_of, head_from, base_from, places_after, places_from, hot_places}
+use Rattle.ss_store.specs.declared.place.Place.{Place}
+use Rattle.ss_store.specs.Index.{CidMap}
+use Rattle.ss_store.specs.Append.{bodies}
+use Rattle.ss_hot.specs.Half.{MayStand, IsInPlace, AreInPlace, settings_from, settings_of, head_from, base_from, places_after, places_from, hot_places}
 use Rattle.ss_hot.specs.Store.{Hot, Tells}
 
 pub bodies-push : (rs : List Record) (r : Record) → bodies (rs ++ r ∷ []) ≡ bodies rs ++ spelling r ∷ []
@@ -19,22 +21,6 @@ bodies-push (q ∷ rs) r = ap (λ (l : List (List ℕ)). spelling q ∷ l) (bodi
 
 pub length-frame : (body : List ℕ) → length (frame body) ≡ 5 + length body
 length-frame body = omega (arith, length-append body (0 ∷ []))
-
--- a frame's body
-pub body_of-frame : (body : List ℕ) → body_of (frame body) ≡ body
-body_of-frame body =
-    let size : length (frame body) - 5 ≡ length body = omega (arith, length-frame body) in
-    ap (λ (n : ℕ). take n (body ++ 0 ∷ [])) size ∙ take_at body (0 ∷ []) (length body) refl
-
-pub bodies-framed : (rs : List Record) (r : Record) (framed : List ℕ) → framed ≡ frame (spelling r) → bodies rs ++ body_of framed ∷ [] ≡ bodies (rs ++ r ∷ [])
-bodies-framed rs r framed is = ap (λ (l : List ℕ). bodies rs ++ body_of l ∷ []) is ∙ ap (λ (l : List ℕ). bodies rs ++ l ∷ []) (body_of-frame (spelling r)) ∙ sym (bodies-push rs r)
-
-length-length_bytes : (n : ℕ) → length (length_bytes n) ≡ 4
-unfolding length_bytes
-length-length_bytes n = refl
-
-pub length-spelled : (body : List ℕ) (more : List (List ℕ)) → length (spelled (body ∷ more)) ≡ 5 + length body + length (spelled more)
-length-spelled body more = omega (arith, length-length_bytes (length body), length-append (length_bytes (length body)) (body ++ spelled more), length-append body (spelled more))
 
 settings_from-step : (x : Option Settings) (r : Record) (rs : List Record) → settings_from x (r ∷ rs) ≡ settings_from (settings_from x (r ∷ [])) rs
 settings_from-step x (Config c) rs = refl
@@ -87,12 +73,12 @@ pub base_from-push : (x : ℕ × ℕ) (rs : List Record) (r : Record) → base_f
 base_from-push x [] r = refl
 base_from-push x (q ∷ rs) r = base_from-step x q (rs ++ r ∷ []) ∙ base_from-push (base_from x (q ∷ [])) rs r ∙ ap (λ (y : ℕ × ℕ). base_from y (r ∷ [])) (sym (base_from-step x q rs))
 
-pub places_from-push : (held : CidMap Place) (at : ℕ) (rs : List Record) (r : Record) → places_from held at (rs ++ r ∷ []) ≡ places_after (places_from held at rs) (at + length (spelled (bodies rs))) r
-places_from-push held at [] r = let none : at ≡ at + 0 = omega arith in ap (λ (n : ℕ). places_after held n r) none
-places_from-push held at (q ∷ rs) r =
-    let size : at + 5 + length (spelling q) + length (spelled (bodies rs)) ≡ at + length (spelled (bodies (q ∷ rs))) = omega (arith, length-spelled (spelling q) (bodies rs)) in
-    places_from-push (places_after held at q) (at + 5 + length (spelling q)) rs r
-    ∙ ap (λ (n : ℕ). places_after (places_from (places_after held at q) (at + 5 + length (spelling q)) rs) n r) size
+pub places_from-push : (file : ℕ) (held : CidMap Place) (at : ℕ) (rs : List Record) (r : Record) → places_from file held at (rs ++ r ∷ []) ≡ places_after file (places_from file held at rs) (at + length (spelled (bodies rs))) r
+places_from-push file held at [] r = let none : at ≡ at + 0 = omega arith in ap (λ (n : ℕ). places_after file held n r) none
+places_from-push file held at (q ∷ rs) r =
+    let size : at + 5 + length (spelling q) + length (spelled (bodies rs)) ≡ at + length (spelled (bodies (q ∷ rs))) = omega (arith, length-spelled-at [] (bodies rs) (spelling q)) in
+    places_from-push file (places_after file held at q) (at + 5 + length (spelling q)) rs r
+    ∙ ap (λ (n : ℕ). places_after file (places_from file (places_after file held at q) (at + 5 + length (spelling q)) rs) n r) size
 
 -- a record that stands behind the settings
 abbrev pub IsLater : Record → Type 0
@@ -153,13 +139,16 @@ AreInPlace-push n (q ∷ rs) r are one =
 
 -- the store behind a record, where its log is this one
 abbrev pub next : Hot → Log → Record → Hot
-next store log r = record { settings = store.settings; log = log; places = places_after store.places store.log.end r; head = head_from store.head (r ∷ []); base = base_from store.base (r ∷ []) }
+next store log r = record { settings = store.settings; log = log; places = places_after store.log.file store.places store.log.end r; head = head_from store.head (r ∷ []); base = base_from store.base (r ∷ []) }
 
-pub tells_next : (store : Hot) (log : Log) (rs : List Record) (r : Record) → Tells store rs → store.log.end ≡ length (spelled (bodies rs)) → Fits r → IsValue r → IsLater r → Tells (next store log r) (rs ++ r ∷ [])
-tells_next store log rs r tells end fits value later = record {
+pub tells_next : (store : Hot) (log : Log) (rs : List Record) (r : Record) → log.file ≡ store.log.file → Tells store rs → store.log.end ≡ length (spelled (bodies rs)) → Fits r → IsValue r → IsLater r → Tells (next store log r) (rs ++ r ∷ [])
+tells_next store log rs r same tells end fits value later = record {
   in_place = AreInPlace-push 0 rs r tells.in_place (record { fits = fits; value = value; may_stand = subst (λ (k : ℕ). MayStand k r) (let same : length rs ≡ 0 + length rs = omega arith in same) (stands_behind rs r store.settings tells.in_place tells.settings later) });
   settings = settings_from-push None rs r ∙ ap (λ (s : Option Settings). settings_from s (r ∷ [])) tells.settings ∙ settings_from-later (Some store.settings) r later;
-  places = ap (λ (m : CidMap Place). places_after m store.log.end r) tells.places ∙ ap (λ (n : ℕ). places_after (hot_places rs) n r) (let at : store.log.end ≡ 0 + length (spelled (bodies rs)) = omega (arith, end) in at) ∙ sym (places_from-push finite_map.empty 0 rs r);
+  places =
+      let file = store.log.file in
+      ap (λ (m : CidMap Place). places_after file m store.log.end r) tells.places ∙ ap (λ (n : ℕ). places_after file (hot_places file rs) n r) (let at : store.log.end ≡ 0 + length (spelled (bodies rs)) = omega (arith, end) in at) ∙ sym (places_from-push file finite_map.empty 0 rs r)
+      ∙ ap (λ (f : ℕ). hot_places f (rs ++ r ∷ [])) (sym same);
   head = ap (λ (h : Option (ℕ × List (List ℕ))). head_from h (r ∷ [])) tells.head ∙ sym (head_from-push None rs r);
   base = ap (λ (b : ℕ × ℕ). base_from b (r ∷ [])) tells.base ∙ sym (base_from-push (0, 0) rs r);
 }

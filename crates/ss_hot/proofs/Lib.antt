@@ -1,20 +1,15 @@
-mod Bodies
 pub mod EachReading
+mod Early
 mod Faults
 mod Fresh
-mod Grown
-mod Maps
+pub mod Grown
 mod Misfits
 mod Opened
-mod Pairs
 mod Passed
 pub mod Places
-mod Placing
 mod PutReadings
-mod Puts
 pub mod Readings
 pub mod Reopened
-mod Settings
+pub mod Settings
 mod Sizes
-mod TreeMap
 mod Writes

@@ -15,6 +15,7 @@ use Rattle.ss_gatelog.specs.Log.{longest_body, length_bytes, Fits as FitsGate}
 use Rattle.ss_gatelog.proofs.Bytes.{from_length_bytes}
 use Rattle.ss_hot.specs.Half.{MayStand, IsInPlace}
 use Rattle.ss_hot.specs.Walk.{IsMisfit}
+use Rattle.ss_hot.proofs.Readings.{one_result}
 
 -- a record may stand at a place or not
 stands_or_not : (n : ℕ) (r : Record) → MayStand n r ⊎ (MayStand n r → ⊥)
@@ -30,9 +31,6 @@ stands_or_not n r = inr (λ stands. stands)
 pub read_or_misfit : (n : ℕ) (body : List ℕ) → IsBytes body → ((r : Record) × (body ≡ spelling r) × IsInPlace n r) ⊎ IsMisfit n body
 read_or_misfit n body small = by_reading (read_record body) refl
   where
-    one_result : (r s : Record) (read : Result Record ℕ) → read ≡ Ok r → read ≡ Ok s → r ≡ s
-    one_result r s read is is' = cc
-
     no_result : (r : Record) (left : ℕ) (read : Result Record ℕ) → read ≡ Ok r → read ≡ Err left → ⊥
     no_result r left read is is' = cc
 

@@ -12,19 +12,19 @@ use Rattle.ss_records.specs.declared.record.Record.TheVariants.{Config, Generati
 use Rattle.ss_records.specs.Record.{number, block, spelling}
 use Rattle.ss_records.specs.Places.{places}
 use Rattle.ss_gatelog.specs.Log.{open_gate, length_bytes, spelled}
-use Rattle.ss_hot.specs.declared.place.Place.{Place}
-use Rattle.ss_hot.specs.Half.{CidMap, bodies, with_pairs, without_cids, hot_after, hot_from, hot_blocks, placed, places_after, places_from, hot_places}
+use Rattle.ss_store.specs.declared.place.Place.{Place}
+use Rattle.ss_store.specs.Index.{CidMap, with_pairs, without_cids}
+use Rattle.ss_store.specs.Places.{placed}
+use Rattle.ss_store.specs.Append.{bodies}
+use Rattle.ss_hot.specs.Half.{hot_after, hot_from, hot_blocks, places_after, places_from, hot_places}
 use Rattle.std.proofs.Common.{Bool, true, false}
 use Rattle.std.proofs.lemmas.Bool.Decides.{when_true, when_false}
 use Rattle.ss_disk.specs.declared.disk.Disk.{Ghosts}
 use Rattle.ss_gatelog.specs.GateLog.{Log, IsSure, IsDoubted, Stands}
+use Rattle.ss_gatelog.proofs.Bytes.{length-length_bytes}
 use Rattle.ss_hot.specs.Store.{Hot, Keeps}
-use Rattle.ss_hot.proofs.TreeMap.{by_bytes, exact}
-use Rattle.ss_hot.proofs.Maps.{alike_insert, alike_remove, alike_keys, alike_len, alike_some, read_whole}
-
-four_bytes : (n : ℕ) → length (length_bytes n) ≡ 4
-unfolding length_bytes
-four_bytes n = refl
+use Rattle.ss_store.proofs.TreeMap.{by_bytes, exact}
+use Rattle.ss_store.proofs.Maps.{alike_insert, alike_remove, alike_keys, alike_len, alike_some, read_whole}
 
 length-number16 : (n : ℕ) → length (number w16 n) ≡ 2
 unfolding number
@@ -35,16 +35,16 @@ unfolding number
 length-number32 n = refl
 
 -- what f reads of the place of a block that stands in the file is what g reads of its bytes
-abbrev Reads : {Z : Type 0} → (Place → Z) → (List ℕ → Z) → List ℕ → Type 0
-Reads f g file = (front rest : List ℕ) (b : List ℕ × List ℕ) (at : ℕ) → file ≡ front ++ (block b ++ rest) → at ≡ length front + length b.0 + 4 → f (record { file = 0; at = at; len = length b.1 }) ≡ g b.1
+abbrev Reads : {Z : Type 0} → (Place → Z) → (List ℕ → Z) → ℕ → List ℕ → Type 0
+Reads f g file_number file = (front rest : List ℕ) (b : List ℕ × List ℕ) (at : ℕ) → file ≡ front ++ (block b ++ rest) → at ≡ length front + length b.0 + 4 → f (record { file = file_number; at = at; len = length b.1 }) ≡ g b.1
 
 -- of a map of places and one of blocks they read the same
 abbrev AreRead : {Z : Type 0} → (Place → Z) → (List ℕ → Z) → CidMap Place → CidMap (List ℕ) → Type 0
 AreRead f g held hot = (q : List ℕ) → option_map f (finite_map.get held q) ≡ option_map g (finite_map.get hot q)
 
-module _ {Z : Type 0} (f : Place → Z) (g : List ℕ → Z) (file : List ℕ) (reads : Reads f g file) where
+module _ {Z : Type 0} (f : Place → Z) (g : List ℕ → Z) (file_number : ℕ) (file : List ℕ) (reads : Reads f g file_number file) where
   read_pairs : (front rest : List ℕ) (blocks : List (List ℕ × List ℕ)) (body at : ℕ) (held : CidMap Place) (hot : CidMap (List ℕ)) → file ≡ front ++ (flat_map block blocks ++ rest) → body + at ≡ length front → AreRead f g held hot
-      → AreRead f g (with_pairs held (map (placed body) (places at blocks))) (with_pairs hot blocks)
+      → AreRead f g (with_pairs held (map (placed file_number body) (places at blocks))) (with_pairs hot blocks)
   read_pairs front rest [] body at held hot is place read = read
   read_pairs front rest (b ∷ bs) body at held hot is place read =
       let here : file ≡ front ++ (block b ++ (flat_map block bs ++ rest)) = is ∙ ap (λ (l : List ℕ). front ++ l) (append_assoc (block b) (flat_map block bs) rest) in
@@ -56,14 +56,14 @@ module _ {Z : Type 0} (f : Place → Z) (g : List ℕ → Z) (file : List ℕ) (
   read_cids (c ∷ cs) held hot read = read_cids cs _ _ (alike_remove by_bytes f g held hot c read)
 
   read_record : (front rest : List ℕ) (r : Record) (at : ℕ) (held : CidMap Place) (hot : CidMap (List ℕ)) → file ≡ front ++ open_gate ∷ (length_bytes (length (spelling r)) ++ (spelling r ++ rest)) → at ≡ length front → AreRead f g held hot
-      → AreRead f g (places_after held at r) (hot_after hot r)
+      → AreRead f g (places_after file_number held at r) (hot_after hot r)
   unfolding spelling
   read_record front rest (Put blocks) at held hot is place read =
       let size = length_bytes (length (spelling (Put blocks))) in
       let count = number w16 (length blocks) in
       let before : List ℕ = front ++ open_gate ∷ (size ++ 3 ∷ count) in
       read_pairs before rest blocks (at + 5) 3 held hot (is ∙ simp append_assoc refl)
-      (omega (arith, place, length-append front (open_gate ∷ (size ++ 3 ∷ count)), length-append size (3 ∷ count), four_bytes (length (spelling (Put blocks))), length-number16 (length blocks))) read
+      (omega (arith, place, length-append front (open_gate ∷ (size ++ 3 ∷ count)), length-append size (3 ∷ count), length-length_bytes (length (spelling (Put blocks))), length-number16 (length blocks))) read
   read_record front rest (Dropped cids) at held hot is place read = read_cids cids held hot read
   read_record front rest (Config c) at held hot is place read = read
   read_record front rest (Generation n) at held hot is place read = read
@@ -76,23 +76,23 @@ module _ {Z : Type 0} (f : Place → Z) (g : List ℕ → Z) (file : List ℕ) (
   read_record front rest (Purged up_to) at held hot is place read = read
 
   read_records : (front rest : List ℕ) (records : List Record) (at : ℕ) (held : CidMap Place) (hot : CidMap (List ℕ)) → file ≡ front ++ (spelled (bodies records) ++ rest) → at ≡ length front → AreRead f g held hot
-      → AreRead f g (places_from held at records) (hot_from hot records)
+      → AreRead f g (places_from file_number held at records) (hot_from hot records)
   read_records front rest [] at held hot is place read = read
   read_records front rest (r ∷ rs) at held hot is place read =
       let size = length_bytes (length (spelling r)) in
       let behind = spelled (bodies rs) in
       let body : List ℕ = open_gate ∷ (size ++ spelling r) in
       read_records (front ++ body) rest rs (at + 5 + length (spelling r)) _ _ (is ∙ simp append_assoc refl)
-      (omega (arith, place, length-append front body, length-append size (spelling r), four_bytes (length (spelling r))))
+      (omega (arith, place, length-append front body, length-append size (spelling r), length-length_bytes (length (spelling r))))
       (read_record front (behind ++ rest) r at held hot (is ∙ simp append_assoc refl) place read)
 
-  read_all : (rest : List ℕ) (records : List Record) → file ≡ spelled (bodies records) ++ rest → AreRead f g (hot_places records) (hot_blocks records)
+  read_all : (rest : List ℕ) (records : List Record) → file ≡ spelled (bodies records) ++ rest → AreRead f g (hot_places file_number records) (hot_blocks records)
   read_all rest records is = read_records [] rest records 0 finite_map.empty finite_map.empty is refl
       (λ q. ap (option_map f) (finite_map.get-empty (slice_cmp nat_cmp) q) ∙ sym (ap (option_map g) (finite_map.get-empty (slice_cmp nat_cmp) q)))
 
 -- the bytes of a block in a file
-pub block_in : (file : List ℕ) → Reads (λ p. slice_range file p.at (p.at + p.len)) (λ b. b) file
-block_in file front rest b at is place =
+pub block_in : (file_number : ℕ) (file : List ℕ) → Reads (λ p. slice_range file p.at (p.at + p.len)) (λ b. b) file_number file
+block_in file_number file front rest b at is place =
     let width = number w32 (length b.1) in
     let before : List ℕ = front ++ (b.0 ++ width) in
     let size : length before ≡ at = omega (arith, place, length-append front (b.0 ++ width), length-append b.0 width, length-number32 (length b.1)) in
@@ -100,23 +100,23 @@ block_in file front rest b at is place =
     let len : at + length b.1 - at ≡ length b.1 = omega arith in
     rw (len, parts, drop_at before (b.1 ++ rest) at size) (take_at b.1 rest (length b.1) refl)
 
-module _ (records : List Record) (q : List ℕ) where
+module _ (file_number : ℕ) (records : List Record) (q : List ℕ) where
   -- a block is as long as its place says
-  pub places_lengths : option_map (λ p. p.len) (finite_map.get (hot_places records) q) ≡ option_map (λ block. length block) (finite_map.get (hot_blocks records) q)
-  places_lengths = read_all (λ p. p.len) (λ block. length block) (spelled (bodies records) ++ []) (λ front rest b at is place. refl) [] records refl q
+  pub places_lengths : option_map (λ p. p.len) (finite_map.get (hot_places file_number records) q) ≡ option_map (λ block. length block) (finite_map.get (hot_blocks records) q)
+  places_lengths = read_all (λ p. p.len) (λ block. length block) file_number (spelled (bodies records) ++ []) (λ front rest b at is place. refl) [] records refl q
 
   -- and stands there in a file that begins with the records
-  pub places_bytes : (file rest : List ℕ) → file ≡ spelled (bodies records) ++ rest → option_map (λ p. slice_range file p.at (p.at + p.len)) (finite_map.get (hot_places records) q) ≡ finite_map.get (hot_blocks records) q
-  places_bytes file rest is = read_all (λ p. slice_range file p.at (p.at + p.len)) (λ b. b) file (block_in file) rest records is q ∙ read_whole (finite_map.get (hot_blocks records) q)
+  pub places_bytes : (file rest : List ℕ) → file ≡ spelled (bodies records) ++ rest → option_map (λ p. slice_range file p.at (p.at + p.len)) (finite_map.get (hot_places file_number records) q) ≡ finite_map.get (hot_blocks records) q
+  places_bytes file rest is = read_all (λ p. slice_range file p.at (p.at + p.len)) (λ b. b) file_number file (block_in file_number file) rest records is q ∙ read_whole (finite_map.get (hot_blocks records) q)
 
-  pub places_some : is_some (finite_map.get (hot_places records) q) ≡ is_some (finite_map.get (hot_blocks records) q)
+  pub places_some : is_some (finite_map.get (hot_places file_number records) q) ≡ is_some (finite_map.get (hot_blocks records) q)
   places_some = alike_some (λ p. p.len) (λ block. length block) _ _ places_lengths
 
-pub places_keys : (records : List Record) → finite_map.keys (hot_places records) ≡ finite_map.keys (hot_blocks records)
-places_keys records = alike_keys by_bytes (λ p. p.len) (λ block. length block) exact (hot_places records) (hot_blocks records) (places_lengths records)
+pub places_keys : (file_number : ℕ) (records : List Record) → finite_map.keys (hot_places file_number records) ≡ finite_map.keys (hot_blocks records)
+places_keys file_number records = alike_keys by_bytes (λ p. p.len) (λ block. length block) exact (hot_places file_number records) (hot_blocks records) (places_lengths file_number records)
 
-pub places_len : (records : List Record) → finite_map.len (hot_places records) ≡ finite_map.len (hot_blocks records)
-places_len records = alike_len by_bytes (λ p. p.len) (λ block. length block) exact (hot_places records) (hot_blocks records) (places_lengths records)
+pub places_len : (file_number : ℕ) (records : List Record) → finite_map.len (hot_places file_number records) ≡ finite_map.len (hot_blocks records)
+places_len file_number records = alike_len by_bytes (λ p. p.len) (λ block. length block) exact (hot_places file_number records) (hot_blocks records) (places_lengths file_number records)
 
 -- ---- a store over a disk
 
@@ -138,7 +138,7 @@ pub kept_bytes : {D : Type 0} (disk : Ghosts D) (now : D) (store : Hot) (records
 kept_bytes disk now store records others q reads keeps =
     let file = begins disk now store.log (bodies records) (bodies others) reads keeps.stands in
     ap (λ m. option_map (λ (p : Place). slice_range (disk.files now store.log.file) p.at (p.at + p.len)) (finite_map.get m q)) keeps.tells.places
-    ∙ places_bytes records q (disk.files now store.log.file) file.0 file.1
+    ∙ places_bytes store.log.file records q (disk.files now store.log.file) file.0 file.1
 
 -- a buffer of a block's length that was filled from the block's place
 pub read_block : (p : Place) (file was out items bytes : List ℕ) (n : ℕ) → was ≡ file → length out ≡ n → length out ≡ p.len → bytes ≡ take n (out ++ drop (length out) items) → out ≡ slice_range was p.at (p.at + length out)

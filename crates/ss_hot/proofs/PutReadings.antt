@@ -9,11 +9,13 @@ use Rattle.ss_records.specs.Record.{spelling, Fits, IsValue}
 use Rattle.ss_records.specs.Fields.{read_record}
 use Rattle.ss_records.specs.Places.{IsPut, ArePlaces, places_of}
 use Rattle.ss_records.proofs.Parts.{IsBytes}
-use Rattle.ss_records.proofs.Records.{read_takes}
+use Rattle.ss_records.proofs.Records.{read_takes, read_again}
 use Rattle.ss_hot.specs.declared.store.walk.Walk.{Walk}
 use Rattle.ss_hot.specs.Half.{MayStand}
-use Rattle.ss_hot.specs.Walk.{IsRead, IsMisfit, has_fault, with_places}
-use Rattle.ss_hot.proofs.Puts.{is_put, read_of, none_of, put_lies, with_placed}
+use Rattle.ss_store.specs.Places.{has_fault, with_places}
+use Rattle.ss_hot.specs.Walk.{Enters, IsRead, IsMisfit}
+use Rattle.ss_hot.proofs.Readings.{one_result}
+use Rattle.ss_store.proofs.Puts.{is_put, read_of, none_of, put_lies, with_placed}
 
 -- a body of a Put's kind reads as none but a Put
 record ReadsPut (body : List ℕ) (r : Record) : Type 0 where
@@ -52,9 +54,9 @@ too_early n body small put few r read stands =
     early n found.blocks few (subst (MayStand n) found.is stands)
 
 -- the blocks were entered by the places that were read
-module _ (old new : Walk) (body : List ℕ) (items : List (Result BlockPlace RecordFault)) (small : IsBytes body) (put : IsPut body) (are : ArePlaces (read_record body) items) (behind : 2 ≤ old.count) (within : old.at + 5 + length body < 2 ^ 64)
-    (at : new.at ≡ old.at) (count : new.count ≡ old.count) (head : new.head ≡ old.head) (base : new.base ≡ old.base) where
-  entered : has_fault items ≡ false → new.index ≡ with_places (old.at + 5) old.index items → IsRead old body new
+module _ (file at : ℕ) (old new : Walk) (body : List ℕ) (items : List (Result BlockPlace RecordFault)) (small : IsBytes body) (put : IsPut body) (are : ArePlaces (read_record body) items) (behind : 2 ≤ old.count) (within : at + 5 + length body < 2 ^ 64)
+    (config : new.config ≡ old.config) (head : new.head ≡ old.head) (base : new.base ≡ old.base) where
+  entered : has_fault items ≡ false → new.index ≡ with_places file (at + 5) old.index items → IsRead file at old body new
   entered none places =
       let read = read_of (read_record body) items are none in
       let found = reads_put body read.0 small put read.1 in
@@ -65,22 +67,26 @@ module _ (old new : Walk) (body : List ℕ) (items : List (Result BlockPlace Rec
         spells = found.spells;
         in_place = record { fits = found.fits; value = found.value; may_stand = late old.count blocks behind };
         enters = record {
-          at = at;
-          count = count;
+          config = config;
           places =
               places
-              ∙ ap (λ (l : List (Result BlockPlace RecordFault)). with_places (old.at + 5) old.index l) all
-              ∙ with_placed (old.at + 5) (length (spelling (Put blocks))) old.index (places_of (Put blocks)) (omega (arith, within, ap (length {A = ℕ}) found.spells)) (put_lies blocks);
+              ∙ ap (λ (l : List (Result BlockPlace RecordFault)). with_places file (at + 5) old.index l) all
+              ∙ with_placed file (at + 5) (length (spelling (Put blocks))) old.index (places_of (Put blocks)) (omega (arith, within, ap (length {A = ℕ}) found.spells)) (put_lies blocks);
           head = head;
           base = base;
         };
       }
 
-  pub put_read : (whole : Bool) → whole ≡ not (has_fault items) → (whole ≡ true → new.index ≡ with_places (old.at + 5) old.index items) → MatchBool whole (IsRead old body new) (IsMisfit old.count body)
+  pub put_read : (whole : Bool) → whole ≡ not (has_fault items) → (whole ≡ true → new.index ≡ with_places file (at + 5) old.index items) → MatchBool whole (IsRead file at old body new) (IsMisfit old.count body)
   put_read whole is places = at_fault (has_fault items) refl whole is places
     where
-      at_fault : (b : Bool) → has_fault items ≡ b → (whole : Bool) → whole ≡ not (has_fault items) → (whole ≡ true → new.index ≡ with_places (old.at + 5) old.index items) → MatchBool whole (IsRead old body new) (IsMisfit old.count body)
+      at_fault : (b : Bool) → has_fault items ≡ b → (whole : Bool) → whole ≡ not (has_fault items) → (whole ≡ true → new.index ≡ with_places file (at + 5) old.index items) → MatchBool whole (IsRead file at old body new) (IsMisfit old.count body)
       at_fault false none true is places = entered none (places refl)
       at_fault false none false is places = absurd (let differ : false ≡ true = is ∙ ap not none in cc)
       at_fault true some true is places = absurd (let differ : true ≡ false = is ∙ ap not some in cc)
       at_fault true some false is places = λ r read stands. none_of (read_record body) items r are some read
+
+-- a record other than a Put was entered or not
+pub entered_or_not : (b : Bool) (file at : ℕ) (old new : Walk) (body : List ℕ) (r : Record) → body ≡ spelling r → IsValue r → Fits r → MatchBool b (MayStand old.count r × Enters file at old r new) ((MayStand old.count r → ⊥) × (new ≡ old)) → MatchBool b (IsRead file at old body new) (IsMisfit old.count body)
+entered_or_not true file at old new body r spells value fits entered = record { is = r; spells = spells; in_place = record { fits = fits; value = value; may_stand = entered.0 }; enters = entered.1 }
+entered_or_not false file at old new body r spells value fits entered = λ q read stands. entered.0 (subst (MayStand old.count) (one_result q r (read_record body) read (ap read_record spells ∙ read_again r value fits)) stands)

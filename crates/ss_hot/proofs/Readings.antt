@@ -1,7 +1,6 @@
 -- A file has one setting and one list of records, or is damaged at one place.
-use Rattle.std.proofs.Common.{◌≡◌, ⊎_elim, ℕ, suc, ◌+◌, ◌<◌, ◌≤◌, List, [], ◌∷◌, ◌++◌, length, refl, sym, ◌∙◌, ap, subst, arith, append_assoc, length-append}
+use Rattle.std.proofs.Common.{◌≡◌, ⊎_elim, ℕ, suc, ◌+◌, ◌<◌, List, [], ◌∷◌, ◌++◌, length, refl, sym, ◌∙◌, ap, subst, arith, append_assoc, length-append}
 use Rattle.std.specs.Prelude.{Result, Ok}
-use Rattle.std.specs.FinMap as finite_map
 use Rattle.std.proofs.lemmas.List.{length-map}
 use Rattle.ss_records.specs.declared.record.Config.{Config as Settings}
 use Rattle.ss_records.specs.declared.record.Record.{Record}
@@ -12,11 +11,12 @@ use Rattle.ss_records.proofs.Records.{read_again}
 use Rattle.ss_gatelog.specs.Log.{open_gate, spelled, AreBodies, HasRecords, HasList}
 use Rattle.ss_gatelog.proofs.Steps.{spelled-push, bodies_push}
 use Rattle.ss_gatelog.proofs.Lists.{GoesOn, compared, closed_ends, unfit_ends, one_list, list_or_damaged}
-use Rattle.ss_hot.specs.Half.{bodies, IsInPlace, AreInPlace, hot_blocks}
-use Rattle.ss_hot.specs.File.{HasSettings, IsHalf, IsBad, IsFaulty, HasTooMany, IsDamagedHalf}
+use Rattle.ss_store.specs.Append.{bodies}
+use Rattle.ss_hot.specs.Half.{IsInPlace, AreInPlace}
+use Rattle.ss_hot.specs.File.{HasSettings, IsHalf, IsBad, IsFaulty, IsDamagedHalf}
 
 -- a reading is of one record
-one_result : (r s : Record) (read : Result Record ℕ) → read ≡ Ok r → read ≡ Ok s → r ≡ s
+pub one_result : (r s : Record) (read : Result Record ℕ) → read ≡ Ok r → read ≡ Ok s → r ≡ s
 one_result r s read is is' = cc
 
 -- a row of two bodies goes on behind no other row of two
@@ -45,7 +45,7 @@ settings_once file a b has has' = ⊎_elim
         of_config a b (one_result (Config a) (Config b) (read_record has.second) has.reads (ap read_record second ∙ has'.reads))
 
 -- a file with settings holds more than a byte
-long_file : (file : List ℕ) (settings : Settings) → HasSettings file settings → 1 < length file
+pub long_file : (file : List ℕ) (settings : Settings) → HasSettings file settings → 1 < length file
 long_file file settings has =
     omega (arith, ap (length {A = ℕ}) has.is, length-append (spelled (has.first ∷ has.second ∷ [])) (has.gate ∷ has.rest))
 
@@ -138,21 +138,11 @@ half_or_faulty file at settings records faulty half = ⊎_elim
         bad_ends settings.limit at file faulty.rest (s.gate ∷ s.rest) faulty.front records faulty.is faulty.bodies bad half.in_place has.bodies s.is
         (closed_ends (bodies records) (bodies faulty.front ++ bad.body ∷ []) s.gate s.rest bad.more s.closed)
 
--- the records of a file with too many hot blocks are not those of one that has no more than it may
-pub apart : (file : List ℕ) (at : ℕ) (settings : Settings) (records : List Record) → IsDamagedHalf file at → IsHalf file settings records → finite_map.len (hot_blocks records) ≤ settings.rows → ⊥
-apart file at settings records damaged half few = ⊎_elim
-    (λ faulty. half_or_faulty file at settings records (subst (λ (c : Settings). IsFaulty c.limit file at) same faulty) half)
-    (λ many. crowded many.0)
-    damaged.damage
-  where
-    same : damaged.settings ≡ settings
-    same = settings_once file damaged.settings settings damaged.committed half.committed
-
-    crowded : HasTooMany file damaged.settings → ⊥
-    crowded many =
-        let rows = ap (λ (c : Settings). c.rows) same in
-        let count = ap (λ (rs : List Record). finite_map.len (hot_blocks rs)) (records_once file damaged.settings settings many.0 records many.1 half) in
-        omega (arith, rows, count, many.2, few)
+-- a file that is damaged is no half
+pub apart : (file : List ℕ) (at : ℕ) (settings : Settings) (records : List Record) → IsDamagedHalf file at → IsHalf file settings records → ⊥
+apart file at settings records damaged half =
+    let same = settings_once file damaged.settings settings damaged.committed half.committed in
+    half_or_faulty file at settings records (subst (λ (c : Settings). IsFaulty c.limit file at) same damaged.damage) half
 
 -- of two records at fault none stands behind the other
 fault_ends : (limit at at' : ℕ) (file : List ℕ) (d : IsFaulty limit file at) (e : IsFaulty limit file at') → GoesOn (bodies d.front) (bodies e.front) (open_gate ∷ d.rest) (open_gate ∷ e.rest) → ⊥
@@ -178,19 +168,6 @@ fault_once limit at at' file d e = ⊎_elim
     (compared (bodies d.front) (bodies e.front) (open_gate ∷ d.rest) (open_gate ∷ e.rest) d.bodies e.bodies (sym d.is ∙ e.is))
 
 pub place_once : (file : List ℕ) (at at' : ℕ) → IsDamagedHalf file at → IsDamagedHalf file at' → at ≡ at'
-place_once file at at' d e = ⊎_elim
-    (λ faulty. ⊎_elim
-    (λ faulty'. fault_once d.settings.limit at at' file faulty (of_first faulty'))
-    (λ many. absurd (half_or_faulty file at e.settings many.0.0 (subst (λ (c : Settings). IsFaulty c.limit file at) same faulty) many.0.1))
-    e.damage)
-    (λ many. ⊎_elim
-    (λ faulty'. absurd (half_or_faulty file at' d.settings many.0.0 (of_first faulty') many.0.1))
-    (λ many'. many.1 ∙ sym many'.1)
-    e.damage)
-    d.damage
-  where
-    same : d.settings ≡ e.settings
-    same = settings_once file d.settings e.settings d.committed e.committed
-
-    of_first : IsFaulty e.settings.limit file at' → IsFaulty d.settings.limit file at'
-    of_first faulty = subst (λ (c : Settings). IsFaulty c.limit file at') (sym same) faulty
+place_once file at at' d e =
+    let same = settings_once file e.settings d.settings e.committed d.committed in
+    fault_once d.settings.limit at at' file d.damage (subst (λ (c : Settings). IsFaulty c.limit file at') same e.damage)

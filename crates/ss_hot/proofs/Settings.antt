@@ -1,84 +1,35 @@
 -- The settings of a file, and the two records that commit them.
-use Rattle.std.proofs.Common.{◌≡◌, ⊎_elim, ℕ, suc, ◌+◌, ◌<◌, List, [], ◌∷◌, ◌++◌, length, refl, sym, ◌∙◌, ap, arith, append_assoc, length-append}
-use Rattle.std.specs.Prelude.{Result, Ok, Option, Some, None, slice_range}
+use Rattle.std.proofs.Common.{◌≡◌, ⊎_elim, ℕ, suc, ◌<◌, List, [], ◌∷◌, ◌++◌, length, take, drop, refl, sym, ◌∙◌, ap, arith, append_assoc, length-append}
+use Rattle.std.specs.Prelude.{Result, Ok, Option, Some, None}
+use Rattle.std.proofs.lemmas.List.{drop_at, take_at}
 use Rattle.ss_records.specs.declared.record.Config.{Config as Settings}
 use Rattle.ss_records.specs.declared.record.Record.{Record}
 use Rattle.ss_records.specs.declared.record.Record.TheVariants.{Config, Generation, Put, Dropped, Head, Base, Start, Cold, Sealed, Copied, Purged}
 use Rattle.ss_records.specs.Record.{spelling}
 use Rattle.ss_records.specs.Fields.{read_record}
 use Rattle.ss_records.proofs.Records.{read_again}
-use Rattle.ss_gatelog.specs.Log.{spelled, AreBodies, Spells}
-use Rattle.ss_gatelog.proofs.Lists.{record_parts, compared, closed_ends}
-use Rattle.ss_gatelog.proofs.Steps.{spelled-append, length-spelled-push}
-use Rattle.ss_hot.specs.Half.{bodies, MayStand, AreInPlace, settings_from, settings_of}
+use Rattle.ss_gatelog.specs.Log.{open_gate, length_bytes, spelled, AreBodies, Spells}
+use Rattle.ss_gatelog.proofs.Lists.{compared, closed_ends}
+use Rattle.ss_gatelog.proofs.Steps.{spelled-append, spelled-push}
+use Rattle.ss_store.specs.Append.{bodies}
+use Rattle.ss_hot.specs.Half.{MayStand, AreInPlace, settings_from, settings_of}
 use Rattle.ss_hot.specs.File.{HasSettings}
-use Rattle.ss_hot.specs.Window.{HasBody}
-use Rattle.ss_hot.proofs.Bodies.{body_head, body_size, body_bytes}
-use Rattle.ss_hot.proofs.Passed.{row_grows}
 
--- one body stands at a place
-pub same_body : (file : List ℕ) (at : ℕ) (a b : List ℕ) → HasBody file at a → HasBody file at b → a ≡ b
-same_body file at a b has has' =
-    let size : length a ≡ length b = body_size file at a has (length b) (omega (arith, has'.short)) (body_head file at b has') in
-    sym (body_bytes file at a has) ∙ ap (λ (n : ℕ). slice_range file (at + 5) (at + 5 + n)) size ∙ body_bytes file at b has'
-
-module _ (file : List ℕ) (settings : Settings) (has : HasSettings file settings) where
-  abbrev behind : List ℕ
-  behind = has.gate ∷ has.rest
-
-  pub first_body : HasBody file 0 has.first
-  first_body = record {
-    front = [];
-    rest = spelled (has.second ∷ []) ++ behind;
-    is = has.is ∙ record_parts has.first (has.second ∷ []) behind;
-    place = refl;
-    short = has.bodies.0;
-  }
-
-  one : length (spelled (has.first ∷ [])) ≡ 5 + length has.first
-  one = length-spelled-push [] has.first
-
-  pub second_body : HasBody file (5 + length has.first) has.second
-  second_body = record {
-    front = spelled (has.first ∷ []);
-    rest = behind;
-    is =
-        has.is
-        ∙ ap (λ (l : List ℕ). l ++ behind) (spelled-append (has.first ∷ []) (has.second ∷ []))
-        ∙ append_assoc (spelled (has.first ∷ [])) (spelled (has.second ∷ [])) behind
-        ∙ ap (λ (l : List ℕ). spelled (has.first ∷ []) ++ l) (record_parts has.second [] behind);
-    place = sym one;
-    short = has.bodies.1.0;
-  }
-
-  pub both_within : 5 + length has.first + 5 + length has.second < length file
-  both_within = omega (arith, one, length-spelled-push (has.first ∷ []) has.second, ap (length {A = ℕ}) has.is, length-append (spelled (has.first ∷ has.second ∷ [])) behind)
-
--- two records of which the second spells settings, and a gate behind them
-pub has_settings : (file first second : List ℕ) (settings : Settings) → HasBody file 0 first → HasBody file (5 + length first) second → 5 + length first + 5 + length second < length file → read_record second ≡ Ok (Config settings) → HasSettings file settings
-has_settings file first second settings has has' within reads =
-    let one : length (spelled (first ∷ [])) ≡ 5 + length first = length-spelled-push [] first in
-    let row = row_grows [] file file first 0 refl refl has in
-    let rows = row_grows (first ∷ []) file has.rest second (5 + length first) row.0 (sym one) has' in
-    let size = length-spelled-push (first ∷ []) second in
-    gated has'.rest rows.0 (omega (arith, one, size, within, ap (length {A = ℕ}) rows.0, length-append (spelled (first ∷ second ∷ [])) has'.rest))
-  where
-    gated : (rest : List ℕ) → file ≡ spelled (first ∷ second ∷ []) ++ rest → 0 < length rest → HasSettings file settings
-    gated [] is some = absurd (omega arith)
-    gated (gate ∷ rest) is some = record {
-      first = first;
-      second = second;
-      gate = gate;
-      rest = rest;
-      is = is;
-      bodies = (has.short, (has'.short, tt));
-      reads = reads;
-    }
+-- the bytes of the second record's body are a part of the file
+pub second_part : (file : List ℕ) (settings : Settings) (has : HasSettings file settings) → (at : ℕ) × (take (length has.second) (drop at file) ≡ has.second)
+second_part file settings has =
+    let front = spelled (has.first ∷ []) ++ open_gate ∷ length_bytes (length has.second) in
+    let behind = has.gate ∷ has.rest in
+    let is : file ≡ front ++ (has.second ++ behind) =
+    has.is ∙ spelled-push (has.first ∷ []) has.second behind ∙ sym (append_assoc (spelled (has.first ∷ [])) (open_gate ∷ length_bytes (length has.second)) (has.second ++ behind)) in (
+      length front,
+      ap (λ (l : List ℕ). take (length has.second) (drop (length front) l)) is ∙ ap (λ (l : List ℕ). take (length has.second) l) (drop_at front (has.second ++ behind) (length front) refl) ∙ take_at has.second behind (length has.second) refl,
+    )
 
 -- ---- the settings that the records tell
 
 -- a record that stands as the second tells settings
-second_tells : (r : Record) → MayStand 1 r → (c : Settings) × (r ≡ Config c)
+pub second_tells : (r : Record) → MayStand 1 r → (c : Settings) × (r ≡ Config c)
 second_tells (Config c) stands = (c, refl)
 second_tells (Generation n) stands = absurd stands
 second_tells (Put blocks) stands = absurd stands

@@ -1,33 +1,36 @@
 -- What a write does to a store and to its disk.
-use Rattle.std.proofs.Common.{◌≡◌, inl, inr, ℕ, ◌+◌, ◌-◌, ◌≤◌, ◌<◌, Bool, false, List, [], ◌∷◌, ◌++◌, length, refl, sym, ◌∙◌, ap, subst, arith}
-use Rattle.std.specs.Prelude.{None, MatchBool, Result, Ok, Err, OnOk, OnErr}
+use Rattle.std.proofs.Common.{◌≡◌, inl, inr, ⊎_elim, ℕ, ◌+◌, ◌-◌, ◌≤◌, ◌<◌, Bool, false, List, [], ◌∷◌, ◌++◌, length, refl, sym, ◌∙◌, ap, subst, arith}
+use Rattle.std.specs.Prelude.{None, All, MatchBool, Result, Ok, Err, OnOk, OnErr}
 use Rattle.std.specs.Ordering.{nat_cmp}
 use Rattle.std.specs.Cmp.Lexicographic.{slice_cmp}
 use Rattle.std.specs.FinMap as finite_map
 use Rattle.ss_disk.specs.declared.disk.Disk.{Ghosts}
-use Rattle.ss_disk.specs.Calls.{Leaves}
-use Rattle.ss_disk.proofs.Goes.{leaves_none}
-use Rattle.ss_gatelog.specs.Log.{Spells}
+use Rattle.ss_disk.specs.Calls.{Touches, Leaves}
+use Rattle.ss_disk.proofs.Goes.{leaves_none, touches_on}
 use Rattle.ss_gatelog.specs.GateLog.{Log, IsSure, IsDoubted, Stands, HasEither}
 use Rattle.ss_records.specs.declared.record.Config.{Config as Settings}
 use Rattle.ss_records.specs.declared.record.Record.{Record}
 use Rattle.ss_records.specs.declared.record.Record.TheVariants.{Config, Generation, Put}
 use Rattle.ss_records.specs.Record.{spelling, Fits, IsValue, SettingsFit}
-use Rattle.ss_hot.specs.declared.place.Place.{Place}
-use Rattle.ss_hot.specs.Half.{CidMap, bodies, with_pairs, without_cids}
+use Rattle.ss_store.specs.declared.place.Place.{Place}
+use Rattle.ss_store.specs.Index.{CidMap, with_pairs, without_cids}
+use Rattle.ss_store.specs.Append.{bodies, Appends}
+use Rattle.ss_store.specs.declared.fault.StoreFault.{StoreFault}
+use Rattle.ss_hot.specs.Half.{hot_places}
 use Rattle.ss_hot.specs.Store.{Hot, IsPlaced, Keeps, IsWithin}
+use Rattle.ss_hot.specs.Writes.{Writes}
 use Rattle.ss_hot.proofs.Fresh.{within_limit}
-use Rattle.ss_hot.proofs.Pairs.{Each-with, Each-without}
-use Rattle.ss_hot.proofs.Placing.{placed_all, placed-before, length-Put, LiesBefore}
+use Rattle.ss_store.proofs.Pairs.{Each-with, Each-without}
+use Rattle.ss_store.proofs.Placing.{placed_all, placed-before, length-Put, LiesBefore}
 use Rattle.ss_hot.proofs.Grown.{next, tells_next, IsLater}
 
 -- a log that goes on below its limit stays where it is
-placed_on : (inside : Hot) (log : Log) → IsPlaced inside → log.file ≡ inside.log.file → log.limit ≡ inside.log.limit → log.end < inside.settings.limit → IsPlaced (record inside { log = log })
-placed_on inside log placed file limit ends = (file ∙ placed.0, limit ∙ placed.1, ends)
+placed_on : (inside : Hot) (log : Log) → IsPlaced inside → log.limit ≡ inside.log.limit → log.end < inside.settings.limit → IsPlaced (record inside { log = log })
+placed_on inside log placed limit ends = (limit ∙ placed.0, ends)
 
 -- so does one that is perhaps no longer sure
 pub placed_doubt : (inside : Hot) (log : Log) (unsure : Bool) → IsPlaced inside → log ≡ record inside.log { unsure = unsure } → IsPlaced (record inside { log = log })
-placed_doubt inside log unsure placed is = placed_on inside log placed (ap (λ (l : Log). l.file) is) (ap (λ (l : Log). l.limit) is) (omega (arith, ap (λ (l : Log). l.end) is, placed.2))
+placed_doubt inside log unsure placed is = placed_on inside log placed (ap (λ (l : Log). l.limit) is) (omega (arith, ap (λ (l : Log). l.end) is, placed.1))
 
 module _ {D : Type 0} (disk : Ghosts D) where
   -- a sure log has the one list
@@ -56,11 +59,10 @@ module _ {D : Type 0} (disk : Ghosts D) where
         → Fits r → IsValue r → IsLater r → Keeps disk new (next inside log r) (rs ++ r ∷ []) []
     keeps_next new log n r is room appended fits value later = record {
       placed = (
-        ap (λ (l : Log). l.file) is ∙ has_kept.placed.0,
-        ap (λ (l : Log). l.limit) is ∙ has_kept.placed.1,
-        omega (arith, ap (λ (l : Log). l.end) is, room, has_kept.placed.1, has_kept.placed.2),
+        ap (λ (l : Log). l.limit) is ∙ has_kept.placed.0,
+        omega (arith, ap (λ (l : Log). l.end) is, room, has_kept.placed.0, has_kept.placed.1),
       );
-      tells = tells_next inside log rs r has_kept.tells is_sure.end fits value later;
+      tells = tells_next inside log rs r (ap (λ (l : Log). l.file) is) has_kept.tells is_sure.end fits value later;
       stands = of_sure new log (bodies (rs ++ r ∷ [])) [] (ap (λ (l : Log). l.unsure) is ∙ still_sure) (appended is_sure);
     }
 
@@ -68,25 +70,31 @@ module _ {D : Type 0} (disk : Ghosts D) where
     pub keeps_doubt : (new : D) (log : Log) (more : List Record) → log ≡ record inside.log { unsure = log.unsure } → (IsSure disk old inside.log (bodies rs) → Stands disk new log (bodies rs) (bodies more)) → Keeps disk new (record inside { log = log }) rs more
     keeps_doubt new log more is failed =
         let tells = has_kept.tells in
-        record { tells = record { in_place = tells.in_place; settings = tells.settings; places = tells.places; head = tells.head; base = tells.base }; placed = placed_doubt inside log log.unsure has_kept.placed is; stands = failed is_sure }
+        record { tells = record { in_place = tells.in_place; settings = tells.settings; places = tells.places ∙ ap (λ (f : ℕ). hot_places f rs) (sym (ap (λ (l : Log). l.file) is)); head = tells.head; base = tells.base }; placed = placed_doubt inside log log.unsure has_kept.placed is; stands = failed is_sure }
 
     -- each image since has the store's list or the longer one
-    pub leaves_next : (new : D) (more : List Record) → inside.log.limit ≡ inside.settings.limit → (IsSure disk old inside.log (bodies rs) → Leaves disk 0 (HasEither inside.log.limit (bodies rs) (bodies more)) old new)
-        → Leaves disk 0 (HasEither store.settings.limit (bodies rs) (bodies more)) old new
-    leaves_next new more limit leaves = subst (λ (n : ℕ). Leaves disk 0 (HasEither n (bodies rs) (bodies more)) old new) (limits limit) (leaves is_sure)
+    pub leaves_next : (new : D) (more : List Record) → inside.log.limit ≡ inside.settings.limit → (IsSure disk old inside.log (bodies rs) → Leaves disk inside.log.file (HasEither inside.log.limit (bodies rs) (bodies more)) old new)
+        → Leaves disk store.log.file (HasEither store.settings.limit (bodies rs) (bodies more)) old new
+    leaves_next new more limit leaves =
+        subst (λ (f : ℕ). Leaves disk f (HasEither store.settings.limit (bodies rs) (bodies more)) old new) (ap (λ (s : Hot). s.log.file) same)
+        (subst (λ (n : ℕ). Leaves disk inside.log.file (HasEither n (bodies rs) (bodies more)) old new) (limits limit) (leaves is_sure))
 
     -- where no call was made, each image has the store's list
-    pub leaves_kept : (more : List Record) → IsWithin inside.settings inside.log inside.places → inside.log.end < inside.log.limit → Leaves disk 0 (HasEither store.settings.limit (bodies rs) (bodies more)) old old
-    leaves_kept more within ends = leaves_next old more within.limit (λ is. leaves_none disk 0 (HasEither inside.log.limit (bodies rs) (bodies more)) old (λ left image. inl (inr (record {
-      spells = subst (λ (f : ℕ). Spells (bodies rs) (left f)) within.file (is.each left image);
+    pub leaves_kept : (more : List Record) → IsWithin inside.settings inside.log inside.places → inside.log.end < inside.log.limit → Leaves disk store.log.file (HasEither store.settings.limit (bodies rs) (bodies more)) old old
+    leaves_kept more within ends = leaves_next old more within.limit (λ is. leaves_none disk inside.log.file (HasEither inside.log.limit (bodies rs) (bodies more)) old (λ left image. inl (inr (record {
+      spells = is.each left image;
       bodies = is.bodies;
       within = omega (arith, is.end);
     }))))
 
+  -- one file alone changed, and then the file of a log, which is this one
+  pub touches_log : (file : ℕ) (old mid new : D) (log : Log) → log.file ≡ file → Touches disk file old mid → Touches disk log.file mid new → Touches disk file old new
+  touches_log file old mid new log same first second = touches_on disk file old mid new first (subst (λ (f : ℕ). Touches disk f mid new) same second)
+
   -- a store in which nothing is kept
-  pub keeps_new : (new : D) (settings : Settings) (log : Log) → SettingsFit settings → log.file ≡ 0 → log.limit ≡ settings.limit → log.unsure ≡ false → IsSure disk new log (bodies (Generation 1 ∷ Config settings ∷ []))
+  pub keeps_new : (new : D) (settings : Settings) (log : Log) → SettingsFit settings → log.limit ≡ settings.limit → log.unsure ≡ false → IsSure disk new log (bodies (Generation 1 ∷ Config settings ∷ []))
       → Keeps disk new (record { settings = settings; log = log; places = finite_map.empty; head = None; base = (0, 0) }) (Generation 1 ∷ Config settings ∷ []) []
-  keeps_new new settings log fit file limit sure is = record {
+  keeps_new new settings log fit limit sure is = record {
     tells = record {
       in_place = (record { fits = omega arith; value = omega arith; may_stand = tt }, (record { fits = fit; value = tt; may_stand = tt }, tt));
       settings = refl;
@@ -94,16 +102,15 @@ module _ {D : Type 0} (disk : Ghosts D) where
       head = refl;
       base = refl;
     };
-    placed = (file, limit, omega (arith, is.end, within_limit settings fit));
+    placed = (limit, omega (arith, is.end, within_limit settings fit));
     stands = of_sure new log (bodies (Generation 1 ∷ Config settings ∷ [])) [] sure is;
   }
 
 -- a log that goes on holds the same places
 within_on : (settings : Settings) (old new : Log) (places : CidMap Place) → IsWithin settings old places → new.file ≡ old.file → new.limit ≡ old.limit → old.end ≤ new.end → IsWithin settings new places
 within_on settings old new places within file limit later = record {
-  file = file ∙ within.file;
   limit = limit ∙ within.limit;
-  each = λ c p held. let was = within.each c p held in (was.0, omega (arith, was.1, later));
+  each = λ c p held. let was = within.each c p held in (was.0 ∙ sym file, omega (arith, was.1, later));
 }
 
 pub within_doubt : (settings : Settings) (old new : Log) (places : CidMap Place) (unsure : Bool) → IsWithin settings old places → new ≡ record old { unsure = unsure } → IsWithin settings new places
@@ -118,25 +125,23 @@ doubt_same inside store log same is = ap (λ (l : Log). record inside { log = l 
 
 pub within_without : (settings : Settings) (log : Log) (places : CidMap Place) (cids : List (List ℕ)) → IsWithin settings log places → IsWithin settings log (without_cids places cids)
 within_without settings log places cids within = record {
-  file = within.file;
   limit = within.limit;
-  each = Each-without (LiesBefore log.end) places cids within.each;
+  each = Each-without (LiesBefore log.file log.end) places cids within.each;
 }
 
 pub within_put : (settings : Settings) (old new : Log) (places : CidMap Place) (n body : ℕ) (blocks : List (List ℕ × List ℕ)) → IsWithin settings old places → new ≡ record old { end = old.end + n } → body ≡ old.end + 5 → n ≡ 5 + length (spelling (Put blocks))
-    → IsWithin settings new (with_pairs places (placed_all body blocks))
+    → IsWithin settings new (with_pairs places (placed_all old.file body blocks))
 within_put settings old new places n body blocks within is at size =
     let more = within_more settings old new places n within is in
     let end : new.end ≡ old.end + n = ap (λ (l : Log). l.end) is in
     record {
-      file = more.file;
       limit = more.limit;
-      each = Each-with (LiesBefore new.end) places (placed_all body blocks) more.each (placed-before body 3 new.end blocks (omega (arith, end, at, size, length-Put blocks)));
+      each = Each-with (LiesBefore new.file new.end) places (placed_all old.file body blocks) more.each
+          (subst (λ (f : ℕ). All (λ p. LiesBefore f new.end p.1) (placed_all old.file body blocks)) (sym (ap (λ (l : Log). l.file) is)) (placed-before old.file body 3 new.end blocks (omega (arith, end, at, size, length-Put blocks))));
     }
 
-pub within_empty : (settings : Settings) (log : Log) → log.file ≡ 0 → log.limit ≡ settings.limit → IsWithin settings log finite_map.empty
-within_empty settings log file limit = record {
-  file = file;
+pub within_empty : (settings : Settings) (log : Log) → log.limit ≡ settings.limit → IsWithin settings log finite_map.empty
+within_empty settings log limit = record {
   limit = limit;
   each = λ c p held. absurd (let differ : ⊥ = cc (finite_map.get-empty {X = Place} (slice_cmp nat_cmp) c, held) in differ);
 }
@@ -148,3 +153,21 @@ same_log inside store log same is = ap (λ (l : Log). record inside { log = l })
 pub within_settled : {T E : Type 0} (result : Result T E) (settings : Settings) (old new : Log) (places : CidMap Place) → IsWithin settings old places → OnOk result (new ≡ record old { unsure = false }) → OnErr result (new ≡ old) → IsWithin settings new places
 within_settled (Ok x) settings old new places within ok err = within_doubt settings old new places false within ok
 within_settled (Err e) settings old new places within ok err = subst (λ (l : Log). IsWithin settings l places) (sym err) within
+
+-- a record that was not written, by what its append did to the log
+pub failed_write : {D : Type 0} (disk : Ghosts D) (was now : D) (inside : Hot) (log : Log) (r : Record) (e : StoreFault) → Appends disk was now inside.log log (5 + length (spelling r)) (Err e) → Writes disk was now inside (record inside { log = log }) r (Err e)
+failed_write disk was now inside log r e appended = record {
+  sure = tt;
+  end = tt;
+  err = ap (λ (l : Log). record inside { log = l }) appended.err;
+  settings = refl;
+  file = ap (λ (l : Log). l.file) appended.err;
+  limit = ap (λ (l : Log). l.limit) appended.err;
+  untouched = λ fault is. ⊎_elim (λ rose. inl rose) (λ same. inr (ap (λ (l : Log). record inside { log = l }) same.0, same.1)) (appended.untouched fault is);
+  full = λ file need room is. let f = appended.full file need room is in (f.0, f.1, f.2, omega (arith, f.1, f.3));
+  roomy = appended.roomy;
+  not_damaged = appended.not_damaged;
+  counts = appended.counts;
+  known = appended.known;
+  touches = appended.touches;
+}

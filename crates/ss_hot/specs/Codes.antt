@@ -1,21 +1,13 @@
--- How the values of an index and of a store are told apart.
+-- How the values of a store are told apart.
 use Rattle.std.specs.Prelude.{ℕ, Bool, List, Option, refl}
 use Rattle.std.specs.Coded.{Coded, code_by, coded×, coded_ℕ, coded_bool, coded_list, coded_option}
-use Rattle.std.specs.FinMap as finite_map
 use Rattle.ss_records.specs.declared.record.Config.{Config as Settings}
 use Rattle.ss_records.specs.contracts.record.Config as settings
 use Rattle.ss_gatelog.specs.GateLog.{Log}
-use Rattle.ss_hot.specs.declared.place.Place.{Place}
-use Rattle.ss_hot.specs.Half.{CidMap}
+use Rattle.ss_store.specs.declared.place.Place.{Place}
+use Rattle.ss_store.specs.Index.{CidMap}
+use Rattle.ss_store.specs.Codes.{places_code}
 use Rattle.ss_hot.specs.Store.{Hot}
-
-abbrev pub place_code : Coded Place
-place_code =
-    code_by (ℕ × (ℕ × ℕ)) (coded× coded_ℕ (coded× coded_ℕ coded_ℕ))
-    (λ p. (p.file, (p.at, p.len))) (λ t. record { file = t.0; at = t.1.0; len = t.1.1 }) (λ _. refl)
-
-abbrev pub places_code : Coded (CidMap Place)
-places_code = finite_map.code (coded_list coded_ℕ) place_code
 
 abbrev pub log_code : Coded Log
 log_code =

@@ -1,12 +1,12 @@
 -- What the file of a half stands for: a store with its records, or no store, or the place of its first damage.
 use Rattle.std.specs.Prelude.{◌≡◌, ◌⊎◌, ℕ, ◌<◌, List, [], ◌∷◌, ◌++◌, length, Ok}
-use Rattle.std.specs.FinMap as finite_map
 use Rattle.ss_records.specs.declared.record.Config.{Config as Settings}
 use Rattle.ss_records.specs.declared.record.Record.{Record}
 use Rattle.ss_records.specs.declared.record.Record.TheVariants.{Config}
 use Rattle.ss_records.specs.Fields.{read_record}
 use Rattle.ss_gatelog.specs.Log.{open_gate, length_bytes, spelled, AreBodies, HasList, Fits as FitsGate}
-use Rattle.ss_hot.specs.Half.{bodies, MayStand, AreInPlace, hot_blocks}
+use Rattle.ss_store.specs.Append.{bodies}
+use Rattle.ss_hot.specs.Half.{MayStand, AreInPlace}
 
 -- Settings are committed: the first two gates are open, both records and a gate behind them are in the file, and the second
 -- record is these settings.
@@ -45,17 +45,8 @@ pub record IsFaulty (limit : ℕ) (file : List ℕ) (at : ℕ) : Type 0 where
   pub within : at < limit
   pub fault : ((n : ℕ) → FitsGate limit at rest n → ⊥) ⊎ IsBad limit (length front) at rest
 
--- more blocks are hot than the settings allow
-abbrev pub HasTooMany : List ℕ → Settings → Type 0
-HasTooMany file settings = (records : List Record) × IsHalf file settings records × (settings.rows < finite_map.len (hot_blocks records))
-
--- the place of the settings' gate, behind the record of a generation
-abbrev pub settings_gate : ℕ
-settings_gate = 14
-
--- The file is of a store, and is damaged at this place: at the first record at fault, or, where there is none and too many
--- blocks are hot, at the settings.
+-- The file is of a store, and is damaged at this place, which is that of the first record at fault.
 pub record IsDamagedHalf (file : List ℕ) (at : ℕ) : Type 0 where
   pub settings : Settings
   pub committed : HasSettings file settings
-  pub damage : IsFaulty settings.limit file at ⊎ (HasTooMany file settings × (at ≡ settings_gate))
+  pub damage : IsFaulty settings.limit file at

@@ -3,13 +3,15 @@
 //!
 //! Contracts see a [`HotStore`] as its settings, its log, a map from CIDs to the places of their blocks, its head
 //! and its base (`Hot` in `specs/Store.antt`). Over a disk it stands for a list of records (`Keeps`): what it
-//! tells is what these records leave (`specs/Half.antt`), and each image of a crash has them in file 0. Where the
+//! tells is what these records leave (`specs/Half.antt`), and each image of a crash has them in the log's file. Where the
 //! log is unsure, each image has them or one other list, by one gate.
 //!
 //! The one contract: a call that writes, as [`HotStore::put_batch`], appends one record or leaves the list as it
 //! was, and every image since its start has the one list or the other, whatever the answer. [`HotStore::open`]
-//! gives the store of exactly the records that the file has; or None, where no settings are committed in it; or
-//! the place of the first record at fault (`specs/File.antt`).
+//! reads the file in one pass, and gives the store of exactly the records that it has; or None, where no settings are
+//! committed in it; or the place of the first record at fault (`specs/File.antt`). [`HotStore::is_committed`] tells by
+//! the first two records whether there is a store. A new store is made by its [`FirstRecords`], which take all memory
+//! before the file is touched.
 //!
 //! No block is held in memory: the index has for each block its CID and its place, so a get is one read. That the
 //! places tell the blocks is in [`laws`]. A call that writes takes all its memory before it asks the disk for
@@ -17,14 +19,9 @@
 //! it sure. Which records a half has, and what they leave, is this project's own.
 #![tactic(auto)]
 
-mod fault;
-mod index;
 pub mod laws;
-mod place;
 mod store;
 #[cfg(test)]
 mod tests;
 
-pub use fault::StoreFault;
-pub use place::Place;
-pub use store::HotStore;
+pub use store::{FirstRecords, HotStore};

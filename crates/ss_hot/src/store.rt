@@ -1,15 +1,16 @@
 ghost use Rattle.std.specs.Prelude.{◌≡◌, option_map};
 
+mod first;
 mod opening;
 mod reading;
 mod walk;
-mod window;
 mod writing;
 
-use crate::index::Index;
+pub use first::FirstRecords;
 use ss_cid::Cids;
 use ss_gatelog::GateLog;
 use ss_records::Config;
+use ss_store::Index;
 use std::marker::Model;
 
 /// The file of the hot log.
@@ -17,7 +18,7 @@ const FILE: u8 = 0;
 
 /// The hot store of a disk: blocks by their CIDs, the head of the chain, and the base of the last compaction.
 ///
-/// All of it stands in a log in file 0 of the disk; in memory are the settings, the head, the base, and for each block where
+/// All of it stands in the log of one file of the disk; in memory are the settings, the head, the base, and for each block where
 /// its bytes lie. A call that writes appends one record, for which it takes all memory before it asks the disk for anything.
 #[derive(Debug, Drop)]
 pub struct HotStore {

@@ -1,40 +1,38 @@
-ghost use Rattle.std.specs.Prelude.{◌≡◌, ◌≢◌, ◌⊎◌, ◌+◌, ◌-◌, ◌^◌, ◌<◌, ◌≤◌, ◌↔◌, ◌∷◌, ◌++◌, [], ℕ, List, All, IsTrue, true, false, length, Err, Ok, Some, None, IsOk, IsErr, IsSome, IsNone, IfOk, IfSome, OnOk, OnErr, IsErrOf, option_map, is_some};
+ghost use Rattle.std.specs.Prelude.{◌≡◌, ◌⊎◌, ◌^◌, ◌<◌, List, IsTrue, length, Err, Ok, None, IfOk, option_map, is_some};
 ghost use Rattle.std.specs.FinMap as finite_map;
-ghost use Rattle.ss_disk.specs.Disk.{Files, Same, Rose, HasCause};
-ghost use Rattle.ss_disk.specs.Calls.{Goes, Touches, Leaves};
-ghost use Rattle.ss_gatelog.specs.GateLog.{HasEither};
+ghost use Rattle.ss_disk.specs.Disk.{Same};
+ghost use Rattle.ss_disk.specs.Calls.{Goes};
+ghost use Rattle.ss_gatelog.specs.Faults.{CountsFault};
 ghost use Rattle.ss_records.specs.declared.record.Record.{Record};
-ghost use Rattle.ss_records.specs.declared.record.Record.TheVariants as record_kind;
-ghost use Rattle.ss_records.specs.Record.{spelling, Fits, SettingsFit};
-ghost use Rattle.ss_hot.specs.Half.{bodies, hot_blocks};
-ghost use Rattle.ss_hot.specs.File.{HasSettings, IsHalf, IsDamagedHalf};
+ghost use Rattle.ss_hot.specs.Half.{hot_blocks};
 
 use super::HotStore;
-use crate::StoreFault;
 use ss_cid::{Bytes, Cid};
 use ss_disk::Disk;
+use ss_store::StoreFault;
 use std::alloc::Global;
 
 impl HotStore {
-    ghost use Rattle.ss_hot.specs.Store.{Hot, Tells, Keeps, SameButDoubt, AreNotHot, room_of};
-    ghost use Rattle.ss_hot.specs.Index.{next_key};
-    ghost use Rattle.ss_hot.specs.declared.fault.StoreFault.{StoreFault};
-    ghost use Rattle.ss_hot.specs.declared.fault.StoreFault.TheVariants as fault;
+    ghost use Rattle.ss_store.specs.Index.{next_key};
+    ghost use Rattle.ss_store.specs.declared.fault.StoreFault.{StoreFault};
+    ghost use Rattle.ss_store.specs.declared.fault.StoreFault.TheVariants as fault;
+    ghost use Rattle.ss_hot.specs.Store.{Tells, Keeps, IsKnown};
 
-    /// The bytes of a hot block, by one read; of one that is not hot None, with no call of the disk. First `NoMemory`, then
-    /// `DiskFault`.
+    /// The bytes of a hot block, by one read; of one that is not hot None, with no call of the disk. First `NoMemory`, with no
+    /// call of the disk either, then `DiskFault`.
     pub fn get<D: Disk>(
         &self,
         alloc: Global,
         disk: &mut D,
         cid: &Cid,
     ) -> Result<Option<Bytes>, StoreFault>
-        requires { self.now.log.end + 1 ≤ D.known disk.old 0 }
+        requires { IsKnown D.Disk disk.old self.now }
         ensures block { (records others : List Record) → IsTrue D.told → Keeps D.Disk disk.old self.now records others → IfOk result (λ found. found ≡ finite_map.get (hot_blocks records) cid.now) }
         ensures hot { IfOk result (λ found. is_some found ≡ is_some (finite_map.get self.now.places cid.now)) }
         ensures absent { finite_map.get self.now.places cid.now ≡ None → (result ≡ Ok None) × (disk.new ≡ disk.old) }
         ensures errors { (e : StoreFault) → result ≡ Err e → (e ≡ fault.NoMemory) ⊎ (e ≡ fault.DiskFault) }
-        ensures fault { result ≡ Err fault.DiskFault → Rose (D.faults disk.old) (D.faults disk.new) }
+        ensures memory { result ≡ Err fault.NoMemory → disk.new ≡ disk.old }
+        ensures counts { CountsFault fault.DiskFault (D.faults disk.old) (D.faults disk.new) result }
         ensures goes { Goes D.Disk Same disk.old disk.new }
     {
         let Some(place) = self.index.get(cid) else {
@@ -43,10 +41,10 @@ impl HotStore {
         let Ok(mut block) = vec![in alloc; 0u8; place.len as usize] else {
             return Err(StoreFault::NoMemory);
         };
-        let Ok(()) = self.log.read_at(disk, place.at, block.as_mut_slice()) else {
-            return Err(StoreFault::DiskFault);
-        };
-        Ok(Some(Bytes::from(block)))
+        match self.log.read_at(disk, place.at, block.as_mut_slice()) {
+            Ok(()) => Ok(Some(Bytes::from(block))),
+            Err(fault) => Err(StoreFault::of_log(place.file, fault)),
+        }
     }
 
     /// Whether a block is hot.

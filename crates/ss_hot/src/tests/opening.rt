@@ -1,8 +1,9 @@
 ghost use Rattle.std.specs.Prelude.{◌+◌, ◌<◌, ◌≤◌, length};
 
-use crate::{HotStore, StoreFault};
+use crate::HotStore;
 use ss_cid::{CODEC_RAW, Cid, HASH_SHA2_256};
 use ss_disk::{Disk, MemoryDisk};
+use ss_store::StoreFault;
 use std::alloc::Global;
 use std::test::Fail;
 
@@ -77,6 +78,8 @@ fn each_log_opens_as_its_records_say(rt: HostRuntime) -> Result<(), Fail> {
         assert!(rt; behind.len() < 100 && at <= 54 + behind.len() as u64);
         let mut disk = holding(rt.alloc(), behind, at, byte)?;
         assert_eq!(rt; opened(rt.alloc(), &mut disk), answer, "{what}");
+        let committed = HotStore::is_committed(rt.alloc(), &mut disk);
+        assert_eq!(rt; committed, Ok(answer != Ok(None)), "{what}");
     }
     let mut disk = MemoryDisk::new(rt.alloc())?;
     assert_eq!(rt; opened(rt.alloc(), &mut disk), Ok(None), "an empty file");
@@ -98,5 +101,26 @@ fn a_store_tells_what_its_records_left(rt: HostRuntime) -> Result<(), Fail> {
     assert_eq!(rt; store.room(), (1 << 40) - 1 - 74);
     assert_eq!(rt; (store.base(), store.unsure()), ((0, 0), false));
     assert!(rt; store.head().is_none());
+    Ok(())
+}
+
+#[test]
+fn a_log_of_several_pieces_is_read_to_its_end(rt: HostRuntime) -> Result<(), Fail> {
+    let mut bases: Vec<u8> = Vec::new(rt.alloc());
+    for base in 0..10_000u32 {
+        bases.extend_from_slice(b"\xa5\0\0\0\x11\x06\0\0\0\0")?;
+        bases.extend_from_slice(&base.to_be_bytes())?;
+        bases.extend_from_slice(b"\0\0\0\0\0\0\0\x05")?;
+    }
+    assert_eq!(rt; bases.len(), 220_000);
+    let mut disk = MemoryDisk::new(rt.alloc())?;
+    disk.write(0, 0, &SETTINGS)?;
+    disk.write(0, 54, &bases)?;
+    disk.write(0, 220_054, NOTHING)?;
+    let store = HotStore::open(rt.alloc(), &mut disk)?.ok_or("no settings")?;
+    assert_eq!(rt; store.base(), (9_999, 5));
+    assert_eq!(rt; store.room(), (1 << 40) - 1 - 220_054);
+    disk.write(0, 110_054, &[0xa5, 0, 0, 0, 0x11, 0x13])?;
+    assert_eq!(rt; opened(rt.alloc(), &mut disk), damaged(110_054));
     Ok(())
 }

@@ -1,5 +1,5 @@
 use super::opening::{PUT, holding};
-use crate::HotStore;
+use crate::{FirstRecords, HotStore};
 use ss_cid::{CODEC_RAW, Cid, Cids, HASH_SHA2_256};
 use ss_disk::MemoryDisk;
 use ss_records::{Config, Mode};
@@ -16,7 +16,7 @@ fn what_was_written_is_there_after_opening(rt: HostRuntime) -> Result<(), Fail> 
         limit: 65536,
     };
     let mut disk = MemoryDisk::new(rt.alloc())?;
-    let mut store = HotStore::create(rt.alloc(), &mut disk, &config)?;
+    let mut store = FirstRecords::new(rt.alloc(), config)?.write(rt.alloc(), &mut disk)?;
     let mut head = Cids::new(rt.alloc());
     head.push(Cid::make(CODEC_RAW, HASH_SHA2_256, b"\xaa")?)?;
     store.set_head(rt.alloc(), &mut disk, 9, &head)?;

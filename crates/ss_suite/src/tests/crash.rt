@@ -184,13 +184,40 @@ fn a_put_that_failed_is_undone_by_the_next_call(rt: HostRuntime) -> Result<(), F
     Ok(())
 }
 
+/// A log of one record, of a store that is gone: its gate is open.
+const OLD_LOG: [u8; 7] = [0xa5, 0, 0, 0, 1, 0x78, 0];
+
+// A disk without a store, on which each file but that of the hot log has an old record.
+fn with_old_logs(alloc: Global) -> Result<MemoryDisk, Fail> {
+    let mut disk = MemoryDisk::new(alloc)?;
+    for file in 1..6u8 {
+        disk.write(file, 0, &OLD_LOG)?;
+        disk.sync(file)?;
+    }
+    Ok(disk.crash(alloc, 0)?)
+}
+
+// Whether no file but that of the hot log has a record.
+fn others_are_empty(disk: &mut MemoryDisk) -> Result<bool, Fail> {
+    for file in 1..6u8 {
+        if disk.size(file)? > 0 {
+            let mut gate = [0];
+            disk.read(file, 0, &mut gate)?;
+            if gate[0] == OLD_LOG[0] {
+                return Ok(false);
+            }
+        }
+    }
+    Ok(true)
+}
+
 #[test]
 fn a_store_that_was_half_made_is_made_again(rt: HostRuntime) -> Result<(), Fail> {
     let words = "init mode=discard";
-    let whole = run(rt.alloc(), words, "", MemoryDisk::new(rt.alloc())?)?.disk;
+    let whole = run(rt.alloc(), words, "", with_old_logs(rt.alloc())?)?.disk;
     let empty = found(rt.alloc(), &[false, false, false])?;
     for call in 0..whole.calls() {
-        let mut disk = MemoryDisk::new(rt.alloc())?;
+        let mut disk = with_old_logs(rt.alloc())?;
         disk.fail_at(call)?;
         let ran = run(rt.alloc(), words, "", disk)?;
         assert_eq!(rt;
@@ -202,12 +229,14 @@ fn a_store_that_was_half_made_is_made_again(rt: HostRuntime) -> Result<(), Fail>
             assert!(rt; call <= whole.calls());
             let stopped = whole.crash_at(rt.alloc(), call, choice)?;
             for disk in [ran.disk.crash(rt.alloc(), choice)?, stopped] {
-                let again = run(rt.alloc(), words, "", disk)?;
+                let mut again = run(rt.alloc(), words, "", disk)?;
                 let answer = (again.status, again.written.as_str());
                 assert!(rt;
                     answer == (0, "store made\n") || answer == (7, "error: store exists\n"),
                     "at call {call}"
                 );
+                // Where the store is there already, none of its files holds an old record.
+                assert!(rt; others_are_empty(&mut again.disk)?, "at call {call}");
                 let (status, told) = reading(rt.alloc(), again.disk)?;
                 assert_eq!(rt; (status, &told), (0, &empty), "at call {call}");
             }

@@ -8,4 +8,4 @@ pub returns-clause-blocks : goal.returns-clause-blocks
 returns-clause-blocks c records tells =
     c.len.ensures.value
     ∙ ap len (ap (λ (s : Hot). s.places) c.self.view_is ∙ tells.places)
-    ∙ places_len records
+    ∙ places_len c.args.self.now.log.file records

@@ -9,4 +9,4 @@ pub returns-clause-block : goal.returns-clause-block
 returns-clause-block c records tells =
     c.is_some.ensures ∙ ap is_some c.get.ensures
     ∙ ap (λ m. is_some (get m c.args.cid.now)) (ap (λ (s : Hot). s.places) c.self.view_is ∙ tells.places)
-    ∙ places_some records c.args.cid.now
+    ∙ places_some c.args.self.now.log.file records c.args.cid.now

@@ -3,35 +3,24 @@ use Rattle.ss_records.specs.declared.record.Record.TheVariants as record_kind
 use Rattle.ss_records.specs.Record.{spelling}
 use Rattle.ss_hot.proofs.Grown.{length-frame}
 use Rattle.ss_hot.proofs.Sizes.{length-Base}
-use Rattle.ss_hot.proofs.Writes.{keeps_next, leaves_next, leaves_kept, within_doubt, within_more}
+use Rattle.ss_hot.proofs.Writes.{keeps_next, leaves_next, within_doubt, within_more}
 use Rattle.ss_hot.proofs.store.HotStore.set_base.Goals as goal
 
-pub returns-in_err-frame-clause-stops : goal.returns-in_err-frame-clause-stops
-returns-in_err-frame-clause-stops g c records told keeps =
-    leaves_kept g.D.Disk c.args.disk.now _ c.args.self.now c.self.view_is records c.requires.sure keeps _ c.self.invariant (omega (arith, c.end.ensures))
-
 pub append_record-requires-clause-body : goal.append_record-requires-clause-body
-append_record-requires-clause-body g c =
-    omega (arith, ap (length {A = ℕ}) (c.deref_mut.ensures.value ∙ c.in_ok-frame.ensures), length-frame (spelling (record_kind.Base c.args.base c.args.ended)), length-Base c.args.base c.args.ended)
+append_record-requires-clause-body g c = omega (arith, ap (length {A = ℕ}) (c.deref_mut.ensures.value ∙ c.in_ok-frame.ensures), length-frame (spelling (record_kind.Base c.args.base c.args.ended)), length-Base c.args.base c.args.ended)
 
 pub invariant_of-self : goal.invariant_of-self
-invariant_of-self g c = within_doubt _ _ _ _ _ c.self.invariant c.in_err-append_record.ensures.err
-
-pub returns-in_err-append_record-clause-stops : goal.returns-in_err-append_record-clause-stops
-returns-in_err-append_record-clause-stops g c records told keeps =
-    leaves_next g.D.Disk c.args.disk.now _ c.args.self.now c.self.view_is records c.requires.sure keeps _ _ c.self.invariant.limit
-    (c.append_record.ensures.stops (record_kind.Base c.args.base c.args.ended) records (c.deref_mut.ensures.value ∙ c.in_ok-frame.ensures) told)
+invariant_of-self g c = within_doubt _ _ _ _ _ c.self.invariant c.in_err-append_record.ensures.appended.err
 
 pub invariant_of-self-2 : goal.invariant_of-self-2
-invariant_of-self-2 g c = within_more _ _ _ _ _ c.self.invariant c.in_ok-append_record.ensures.ok
+invariant_of-self-2 g c = within_more _ _ _ _ _ c.self.invariant c.in_ok-append_record.ensures.appended.ok
 
-pub returns-clause-kept : goal.returns-clause-kept
-returns-clause-kept g c records told keeps =
-    keeps_next g.D.Disk c.args.disk.now _ c.args.self.now c.self.view_is records c.requires.sure keeps _ _ _ (record_kind.Base c.args.base c.args.ended) c.in_ok-append_record.ensures.ok (c.in_ok-append_record.ensures.roomy (inl refl))
-    (c.in_ok-append_record.ensures.appended (record_kind.Base c.args.base c.args.ended) records (c.deref_mut.ensures.value ∙ c.in_ok-frame.ensures) told)
-    c.requires.base c.ranges.ended.fits tt
-
-pub returns-clause-stops : goal.returns-clause-stops
-returns-clause-stops g c records told keeps =
-    leaves_next g.D.Disk c.args.disk.now _ c.args.self.now c.self.view_is records c.requires.sure keeps _ _ c.self.invariant.limit
-    (c.append_record.ensures.stops (record_kind.Base c.args.base c.args.ended) records (c.deref_mut.ensures.value ∙ c.in_ok-frame.ensures) told)
+pub returns-clause-told : goal.returns-clause-told
+returns-clause-told g c records told keeps = record {
+  kept = keeps_next g.D.Disk c.args.disk.now _ c.args.self.now c.self.view_is records c.requires.sure keeps _ _ _ (record_kind.Base c.args.base c.args.ended) c.in_ok-append_record.ensures.appended.ok (c.in_ok-append_record.ensures.appended.roomy (inl refl))
+      (λ sure. (c.in_ok-append_record.ensures.told (record_kind.Base c.args.base c.args.ended) records (c.deref_mut.ensures.value ∙ c.in_ok-frame.ensures) told sure).appended)
+      c.requires.base c.ranges.ended.fits tt;
+  failed = tt;
+  stops = leaves_next g.D.Disk c.args.disk.now _ c.args.self.now c.self.view_is records c.requires.sure keeps _ _ c.self.invariant.limit
+      (λ sure. (c.append_record.ensures.told (record_kind.Base c.args.base c.args.ended) records (c.deref_mut.ensures.value ∙ c.in_ok-frame.ensures) told sure).stops);
+}

@@ -1,6 +1,0 @@
-use Rattle.std.proofs.Common.{take}
-use Rattle.ss_app.specs.Fresh.{ArePairsAt}
-use Rattle.ss_app.proofs.fresh.blocks_at.Given as goal
-
-abbrev pub invariant-loop-place : goal.invariant-loop-place
-invariant-loop-place l = ArePairsAt l.parcel (take l.place-index l.places) l.blocks

@@ -1,6 +1,0 @@
-use Rattle.ss_app.specs.Fresh.{cids_of}
-use Rattle.ss_app.proofs.NewPairs.{IsWalked}
-use Rattle.ss_app.proofs.fresh.new_places.Given as goal
-
-abbrev pub invariant-loop-i : goal.invariant-loop-i
-invariant-loop-i l = IsWalked (cids_of l.hot.places) l.parcel l.met l.places.items l.i

@@ -1,0 +1,89 @@
+-- What a get finds.
+use Rattle.std.proofs.Common.{◌≡◌, ℕ, true, false, List, Option, Some, None, refl, sym, ap, subst, ◌∙◌, true≢false, arith}
+use Rattle.std.specs.Prelude.{is_some, if◌then◌else◌, Result, Ok, Err, IfOk, MatchResult}
+use Rattle.std.specs.FinMap as finite_map
+use Rattle.ss_cid.specs.Cid.{identity_of}
+use Rattle.ss_model.specs.State.{State, Kept}
+use Rattle.ss_model.specs.Lawful.{LawfulGet, is_open, or_else, fetched}
+use Rattle.ss_disk.specs.declared.disk.Disk.{Ghosts}
+use Rattle.ss_disk.specs.Calls.{Leaves}
+use Rattle.ss_records.specs.declared.record.Record.{Record}
+use Rattle.ss_hot.specs.Store.{Hot, SameButDoubt}
+use Rattle.ss_model.specs.declared.call.Call.TheVariants as call
+use Rattle.ss_model.specs.declared.call.Answer.TheVariants as answer
+use Rattle.ss_core.specs.declared.split_core.SplitCore.{SplitCore}
+use Rattle.ss_core.specs.Calls.{Steps}
+use Rattle.ss_core.specs.Effect.{no_effect, get_effect, effect_of}
+use Rattle.ss_core.specs.StandsFor.{StandsFor, HasEitherState}
+use Rattle.ss_core.proofs.Idle.{IsIdle, idle, unwritten, doubts_none, doubts_same, stands_still}
+use Rattle.ss_model.specs.declared.call.GetReply.{GetReply}
+use Rattle.ss_model.specs.declared.call.GetReply.TheVariants as get
+
+-- an identity CID stands for its digest, of which a copy was made or not
+pub digest_lawful : {E : Type 0} (s : State) (v : ℕ) (c digest : List ℕ) (copy : Result (List ℕ) E) (r : GetReply) → is_open s v ≡ true → Some digest ≡ identity_of c → IfOk copy (λ b. b ≡ digest) → MatchResult copy (λ b. r ≡ get.Found b) (λ _. r ≡ get.NoMemory) → LawfulGet s v c r
+unfolding fetched
+digest_lawful s v c digest (Ok b) r opened id copied is =
+    subst (LawfulGet s v c) (sym is) (opened, ap (λ i. or_else i (finite_map.get s.kept c)) (sym id) ∙ ap Some (sym copied))
+digest_lawful s v c digest (Err e) r opened id copied is =
+    subst (LawfulGet s v c) (sym is) (opened, ap (λ i. is_some (or_else i (finite_map.get s.kept c))) (sym id))
+
+-- another CID stands for what is kept under it
+pub fetched_is : (kept : Kept) (c : List ℕ) → None ≡ identity_of c → fetched kept c ≡ finite_map.get kept c
+unfolding fetched
+fetched_is kept c none = ap (λ i. or_else i (finite_map.get kept c)) (sym none)
+
+-- what is not there is none
+pub none_there : {X : Type 0} (found : Option X) → false ≡ is_some found → found ≡ None
+none_there None e = refl
+none_there (Some x) e = absurd (true≢false (sym e))
+
+-- an answer that does not hang on what is looked up is idle, where it is whatever the CID
+idle_get : (id : Option (List ℕ)) (r : GetReply) → IsIdle (get_effect r) → IsIdle (if is_some id then no_effect else get_effect r)
+idle_get None r is = is
+idle_get (Some d) r is = record { writes = refl; doubts = refl; settles = refl }
+
+module _ {D : Type 0} (disk : Ghosts D) (s : State) (doubt : Option Record) (v : ℕ) (c : List ℕ) where
+  module _ (old new : SplitCore D disk) (same : new.disk ≡ old.disk) (same_hot : new.hot ≡ old.hot) (viewed : new.views ≡ old.views) (stands : StandsFor old s doubt) where
+    after : StandsFor new s doubt
+    after = stands_still disk old new s doubt same same_hot stands viewed
+
+    pub bad_view : is_open s v ≡ false → Steps old new s doubt (call.Get v c) (answer.Get get.BadView)
+    bad_view not_open = idle disk old new s doubt (call.Get v c) (answer.Get get.BadView) same same_hot (idle_get (identity_of c) get.BadView (record { writes = refl; doubts = refl; settles = refl })) stands not_open after
+
+    pub not_found : is_open s v ≡ true → fetched s.kept c ≡ None → Steps old new s doubt (call.Get v c) (answer.Get get.NotFound)
+    not_found opened none = idle disk old new s doubt (call.Get v c) (answer.Get get.NotFound) same same_hot (idle_get (identity_of c) get.NotFound (record { writes = refl; doubts = refl; settles = refl })) stands (opened, none) after
+
+    pub own_digest : (digest : List ℕ) (r : GetReply) → Some digest ≡ identity_of c → LawfulGet s v c r → Steps old new s doubt (call.Get v c) (answer.Get r)
+    own_digest digest r id lawful =
+        idle disk old new s doubt (call.Get v c) (answer.Get r) same same_hot (subst (λ (i : Option (List ℕ)). IsIdle (if is_some i then no_effect else get_effect r)) id (record { writes = refl; doubts = refl; settles = refl })) stands lawful after
+
+  -- a block that is not its CID's own is looked up
+  module _ (none : None ≡ identity_of c) (old new : SplitCore D disk) (same : SameButDoubt old.hot new.hot) (leaves : Leaves disk old.hot.log.file (HasEitherState s doubt) old.disk new.disk) (opened : is_open s v ≡ true) where
+    looked : (r : GetReply) → effect_of s (call.Get v c) (answer.Get r) ≡ get_effect r
+    looked r = ap (λ i. if is_some i then no_effect else get_effect r) (sym none)
+
+    is_there : is_some (finite_map.get s.kept c) ≡ true → is_some (fetched s.kept c) ≡ true
+    is_there there = ap is_some (fetched_is s.kept c none) ∙ there
+
+    -- the log could not be settled
+    pub not_settled : is_some (finite_map.get s.kept c) ≡ true → StandsFor new s doubt → Steps old new s doubt (call.Get v c) (answer.Get get.DiskFault)
+    not_settled there still =
+        unwritten disk old new s doubt doubt (call.Get v c) (answer.Get get.DiskFault) (get_effect get.DiskFault) (looked get.DiskFault) refl (omega arith) (doubts_same (get_effect get.DiskFault) doubt refl) (ap (λ (h : Hot). h.log.end) same) leaves (opened, is_there there, sym none) still
+
+    pub is_found : (block : List ℕ) → finite_map.get s.kept c ≡ Some block → StandsFor new s None → Steps old new s doubt (call.Get v c) (answer.Get (get.Found block))
+    is_found block there settled =
+        unwritten disk old new s doubt None (call.Get v c) (answer.Get (get.Found block)) (get_effect (get.Found block)) (looked (get.Found block)) refl (omega arith) (doubts_none (get_effect (get.Found block)) doubt refl) (ap (λ (h : Hot). h.log.end) same) leaves
+        (opened, fetched_is s.kept c none ∙ there) settled
+
+    pub is_not_read : is_some (finite_map.get s.kept c) ≡ true → StandsFor new s None → Steps old new s doubt (call.Get v c) (answer.Get get.DiskFault)
+    is_not_read there settled =
+        unwritten disk old new s doubt None (call.Get v c) (answer.Get get.DiskFault) (get_effect get.DiskFault) (looked get.DiskFault) refl (omega arith) (doubts_none (get_effect get.DiskFault) doubt refl) (ap (λ (h : Hot). h.log.end) same) leaves (opened, is_there there, sym none) settled
+
+    pub is_wanting : is_some (finite_map.get s.kept c) ≡ true → StandsFor new s None → Steps old new s doubt (call.Get v c) (answer.Get get.NoMemory)
+    is_wanting there settled =
+        unwritten disk old new s doubt None (call.Get v c) (answer.Get get.NoMemory) (get_effect get.NoMemory) (looked get.NoMemory) refl (omega arith) (doubts_none (get_effect get.NoMemory) doubt refl) (ap (λ (h : Hot). h.log.end) same) leaves (opened, is_there there) settled
+
+-- what is not read is there
+pub held_by_error : {X T E : Type 0} {e : E} {ok : T} (found : Option X) → (found ≡ None → ◌≡◌ {A = Result T E} (Err e) (Ok ok)) → is_some found ≡ true
+held_by_error None absent = absurd (let differ : ⊥ = cc (absent refl) in differ)
+held_by_error (Some x) absent = refl

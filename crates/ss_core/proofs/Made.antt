@@ -1,0 +1,82 @@
+-- What a call does over any disk, where it may have called it.
+use Rattle.std.proofs.Common.{◌≡◌, ◌⊎◌, inl, inr, ℕ, true, false, List, None, refl, sym, ap, ◌∙◌, arith}
+use Rattle.std.specs.Prelude.{is_some, if◌then◌else◌, Result, Ok, Err}
+use Rattle.ss_disk.specs.declared.disk.Disk.{Ghosts}
+use Rattle.ss_disk.specs.Disk.{Rose}
+use Rattle.ss_disk.specs.Calls.{Touches}
+use Rattle.ss_cid.specs.Cid.{identity_of}
+use Rattle.ss_model.specs.State.{empty_state}
+use Rattle.ss_model.specs.declared.call.Call.TheVariants as call
+use Rattle.ss_model.specs.declared.call.Answer.TheVariants as answer
+use Rattle.ss_model.specs.declared.call.PutReply.TheVariants as put
+use Rattle.ss_model.specs.declared.call.GetReply.{GetReply}
+use Rattle.ss_model.specs.declared.call.GetReply.TheVariants as get
+use Rattle.ss_core.specs.declared.split_core.SplitCore.{SplitCore}
+use Rattle.ss_core.specs.Calls.{Makes}
+use Rattle.ss_core.specs.Effect.{Effect, no_effect, get_effect}
+
+never : {X : Type 0} → false ≡ true → X
+never wrong = absurd (let differ : ⊥ = cc (wrong) in differ)
+
+-- where no fault is answered none was counted
+pub counted_kept : {T E : Type 0} (x : T) (e : E) (P : Type 0) → ◌≡◌ {A = Result T E} (Ok x) (Err e) ⊎ P → P
+counted_kept x e P (inl wrong) = absurd (let differ : ⊥ = cc (wrong) in differ)
+counted_kept x e P (inr kept) = kept
+
+-- a count that rose later rose since
+pub rose_on : (was mid now : ℕ) → mid ≡ was → Rose mid now → Rose was now
+rose_on was mid now same rose = omega (arith, same, rose)
+
+module _ {D : Type 0} (disk : Ghosts D) (old new : SplitCore D disk) (settings : new.hot.settings ≡ old.hot.settings) (file : new.hot.log.file ≡ old.hot.log.file) (touches : Touches disk old.hot.log.file old.disk new.disk) where
+  pub put_stored : (v n : ℕ) (pairs : List (List ℕ × List ℕ)) → disk.faults new.disk ≡ disk.faults old.disk → new.hot.log.unsure ≡ false → Makes old new (call.Put v pairs) (answer.Put (put.Stored n))
+  put_stored v n pairs kept sure = record { fault = λ wrong. never wrong; no_fault = inr kept; full = tt; memory = λ wrong. never wrong; still = λ not. never (sym (not (empty_state old.hot.settings))); settled = λ _ _. sure; settings = settings; file = file; touches = touches }
+
+  pub put_failed : (v : ℕ) (pairs : List (List ℕ × List ℕ)) → Rose (disk.faults old.disk) (disk.faults new.disk) → Makes old new (call.Put v pairs) (answer.Put put.DiskFault)
+  put_failed v pairs rose = record { fault = λ _. rose; no_fault = inl refl; full = tt; memory = λ wrong. never wrong; still = λ not. never (sym (not (empty_state old.hot.settings))); settled = λ _ wrong. never wrong; settings = settings; file = file; touches = touches }
+
+  pub put_wanting : (v : ℕ) (pairs : List (List ℕ × List ℕ)) → disk.faults new.disk ≡ disk.faults old.disk → (old.hot.log.unsure ≡ false → new.disk ≡ old.disk) → Makes old new (call.Put v pairs) (answer.Put put.NoMemory)
+  put_wanting v pairs kept same = record { fault = λ wrong. never wrong; no_fault = inr kept; full = tt; memory = λ _ sure. same sure; still = λ not. never (sym (not (empty_state old.hot.settings))); settled = λ _ wrong. never wrong; settings = settings; file = file; touches = touches }
+
+  module _ (v : ℕ) (c : List ℕ) (none : None ≡ identity_of c) where
+    -- a block that is not its CID's own is looked up
+    looked : (r : GetReply) → get_effect r ≡ (if is_some (identity_of c) then no_effect else get_effect r)
+    looked r = ap (λ i. if is_some i then no_effect else get_effect r) none
+
+    pub get_found : (block : List ℕ) → disk.faults new.disk ≡ disk.faults old.disk → new.hot.log.unsure ≡ false → Makes old new (call.Get v c) (answer.Get (get.Found block))
+    get_found block kept sure = record {
+      fault = λ wrong. never wrong;
+      no_fault = inr kept;
+      full = tt;
+      memory = λ wrong. never wrong;
+      still = λ not. never (sym (ap (λ (e : Effect). e.reaches) (looked (get.Found block)) ∙ not (empty_state old.hot.settings)));
+      settled = λ _ _. sure;
+      settings = settings;
+      file = file;
+      touches = touches;
+    }
+
+    pub get_failed : Rose (disk.faults old.disk) (disk.faults new.disk) → Makes old new (call.Get v c) (answer.Get get.DiskFault)
+    get_failed rose = record {
+      fault = λ _. rose;
+      no_fault = inl refl;
+      full = tt;
+      memory = λ wrong. never wrong;
+      still = λ not. never (sym (ap (λ (e : Effect). e.reaches) (looked get.DiskFault) ∙ not (empty_state old.hot.settings)));
+      settled = λ s wrong. never (ap (λ (e : Effect). e.settles) (looked get.DiskFault) ∙ wrong);
+      settings = settings;
+      file = file;
+      touches = touches;
+    }
+
+    pub get_wanting : disk.faults new.disk ≡ disk.faults old.disk → (old.hot.log.unsure ≡ false → new.disk ≡ old.disk) → Makes old new (call.Get v c) (answer.Get get.NoMemory)
+    get_wanting kept same = record {
+      fault = λ wrong. never wrong;
+      no_fault = inr kept;
+      full = tt;
+      memory = λ _ sure. same sure;
+      still = λ not. never (sym (ap (λ (e : Effect). e.reaches) (looked get.NoMemory) ∙ not (empty_state old.hot.settings)));
+      settled = λ s wrong. never (ap (λ (e : Effect). e.settles) (looked get.NoMemory) ∙ wrong);
+      settings = settings;
+      file = file;
+      touches = touches;
+    }

@@ -1,0 +1,153 @@
+-- The new pairs of a parcel, found one after another and told by their places.
+use Rattle.std.proofs.Common.{◌≡◌, ℕ, zero, suc, ◌+◌, ◌<◌, ◌≤◌, Bool, true, false, true≢false, cond, List, [], ◌∷◌, ◌++◌, length, drop, Some, refl, sym, ap, ◌∙◌, append_assoc, arith}
+use Rattle.std.specs.Prelude.{◌==◌, ◌||◌, not, map, is_some, slice_get, All}
+use Rattle.std.specs.Ordering.{nat_cmp, eq_by_cmp}
+use Rattle.std.specs.Cmp.{eq_by_cmp_equiv}
+use Rattle.std.specs.Cmp.Lexicographic.{slice_cmp, nat_list_cmp_total}
+use Rattle.std.specs.BTreeSet.{BTreeSet, contains}
+use Rattle.std.specs.FinMap as finite_map
+use Rattle.std.specs.FinSet as finite_set
+use Rattle.std.specs.FinSet.{contains-insert}
+use Rattle.std.proofs.Math.ListN.{drop_of_length-le}
+use Rattle.std.proofs.lemmas.List.{map-append, length-map, append-nil, drop_more}
+use Rattle.std.proofs.lemmas.List.Elements.{All-nil, All-cons}
+use Rattle.std.proofs.lemmas.Option.{slice_get_within, get_or_from_slice_get}
+use Rattle.ss_cid.specs.Cid.{identity_of}
+use Rattle.ss_store.specs.Index.{CidMap}
+use Rattle.ss_store.specs.declared.place.Place.{Place}
+use Rattle.ss_model.specs.State.{CidSet}
+use Rattle.ss_model.specs.Lawful.{is_left_out, new_pairs}
+use Rattle.ss_core.specs.Fresh.{ArePairsAt, cids_of}
+use Rattle.ss_core.proofs.Puts.{picked, fresh_few, cids_known}
+
+-- where as many are new as there are, all are
+pub all_new : (h : CidSet) (pairs : List (List ℕ × List ℕ)) → length (new_pairs h pairs) ≡ length pairs → new_pairs h pairs ≡ pairs
+all_new h [] many = refl
+all_new h (p ∷ pairs) many =
+    elim (is_left_out h p.0) as (λ out. length (picked h p pairs out) ≡ length (p ∷ pairs) → picked h p pairs out ≡ p ∷ pairs) [
+      | true ↦ λ all. absurd (omega (arith, all, fresh_few h pairs))
+      | false ↦ λ all. ap (λ rest. p ∷ rest) (all_new (finite_set.insert h p.0) pairs (omega (arith, all)))
+    ] many
+
+-- the two lists are told by the same places
+pub same_pairs : (xs ys : List (List ℕ × List ℕ)) → map Some xs ≡ map Some ys → xs ≡ ys
+same_pairs [] [] e = refl
+same_pairs [] (y ∷ ys) e = absurd cc
+same_pairs (x ∷ xs) [] e = absurd cc
+same_pairs (x ∷ xs) (y ∷ ys) e =
+    let rest : map Some xs ≡ map Some ys = cc in
+    let first : x ≡ y = cc in
+    λ i. first i ∷ same_pairs xs ys rest i
+
+-- there are as many places as pairs
+pub as_many : (pairs : List (List ℕ × List ℕ)) (places : List ℕ) (chosen : List (List ℕ × List ℕ)) → ArePairsAt pairs places chosen → length places ≡ length chosen
+as_many pairs places chosen are = sym (length-map places (slice_get pairs)) ∙ ap length are ∙ length-map chosen Some
+
+-- each place is one of the list's
+pub places_within : (pairs : List (List ℕ × List ℕ)) (places : List ℕ) (chosen : List (List ℕ × List ℕ)) → ArePairsAt pairs places chosen → All (λ i. i < length pairs) places
+places_within pairs [] chosen are = All-nil (λ i. i < length pairs)
+places_within pairs (i ∷ places) [] are = absurd cc
+places_within pairs (i ∷ places) (p ∷ chosen) are =
+    let first : slice_get pairs i ≡ Some p = cc in
+    let rest : ArePairsAt pairs places chosen = cc in
+    All-cons (λ i. i < length pairs) i places (slice_get_within pairs i p first) (places_within pairs places chosen rest)
+
+-- one place and its pair more
+pub pair_more : (pairs : List (List ℕ × List ℕ)) (places : List ℕ) (chosen : List (List ℕ × List ℕ)) (i : ℕ) (p : List ℕ × List ℕ) → slice_get pairs i ≡ Some p → ArePairsAt pairs places chosen → ArePairsAt pairs (places ++ i ∷ []) (chosen ++ p ∷ [])
+pair_more pairs places chosen i p at are =
+    map-append (slice_get pairs) places (i ∷ []) ∙ (λ k. are k ++ at k ∷ []) ∙ sym (map-append Some chosen (p ∷ []))
+
+-- The pairs before a place have been walked. Of these `so_far` are new, and these places tell them; after them those pairs are
+-- new whose CIDs are not known, and known are those of the set and those that were met.
+pub record IsWalked (hot : CidSet) (pairs : List (List ℕ × List ℕ)) (met : BTreeSet (List ℕ)) (places : List ℕ) (i : ℕ) : Type 0 where
+  pub so_far : List (List ℕ × List ℕ)
+  pub known : CidSet
+  pub are_at : ArePairsAt pairs places so_far
+  pub split : new_pairs hot pairs ≡ so_far ++ new_pairs known (drop i pairs)
+  pub alike : (c : List ℕ) → finite_set.contains known c ≡ (finite_set.contains hot c || contains (slice_cmp nat_cmp) met c)
+
+or-false : (b : Bool) → b ≡ (b || false)
+or-false true = refl
+or-false false = refl
+
+-- nothing has been walked
+pub none_walked : (hot : CidSet) (pairs : List (List ℕ × List ℕ)) (met : BTreeSet (List ℕ)) → met.keys ≡ [] → IsWalked hot pairs met [] 0
+none_walked hot pairs met none = record {
+  so_far = [];
+  known = hot;
+  are_at = refl;
+  split = refl;
+  alike = λ c. rw none (or-false (finite_set.contains hot c));
+}
+
+-- the pair at the next place, and those after it
+next_pair : (pairs : List (List ℕ × List ℕ)) (i : ℕ) (p : List ℕ × List ℕ) → slice_get pairs i ≡ Some p → drop i pairs ≡ p ∷ drop (i + 1) pairs
+next_pair pairs i p at = drop_more pairs i p (slice_get_within pairs i p at) ∙ ap (λ q. q ∷ drop (i + 1) pairs) (get_or_from_slice_get pairs i p p at)
+
+-- what is new of the pairs from a place on, by whether the pair there is left out
+from_here : (known : CidSet) (pairs : List (List ℕ × List ℕ)) (i : ℕ) (p : List ℕ × List ℕ) (a out : Bool) → slice_get pairs i ≡ Some p → finite_set.contains known p.0 ≡ a → (is_some (identity_of p.0) || a) ≡ out → new_pairs known (drop i pairs) ≡ picked known p (drop (i + 1) pairs) out
+unfolding is_left_out
+from_here known pairs i p a out at has left =
+    ap (new_pairs known) (next_pair pairs i p at) ∙ ap (picked known p (drop (i + 1) pairs)) (ap (λ b. is_some (identity_of p.0) || b) has ∙ left)
+
+or_left : (a b m : Bool) → (a || (b || m)) ≡ ((a || b) || m)
+or_left true b m = refl
+or_left false b m = refl
+
+-- what the two tests of a pair say, in the words of the index: whether it is old wherever it stands, and whether it was met
+pub told : (places : CidMap Place) (met : BTreeSet (List ℕ)) (c : List ℕ) (out old said : Bool) → out ≡ (is_some (identity_of c) || is_some (finite_map.get places c)) → out ≡ old → contains (slice_cmp nat_cmp) met c ≡ said
+    → (is_some (identity_of c) || (finite_set.contains (cids_of places) c || contains (slice_cmp nat_cmp) met c)) ≡ (old || said)
+told places met c out old said is says has =
+    ap (λ hot. is_some (identity_of c) || (hot || contains (slice_cmp nat_cmp) met c)) (cids_known places c)
+    ∙ or_left (is_some (identity_of c)) (is_some (finite_map.get places c)) (contains (slice_cmp nat_cmp) met c)
+    ∙ (λ k. (sym is ∙ says) k || has k)
+
+-- what was added was not there, and what was not added was
+pub was_there : (there added : Bool) → added ≡ not there → there ≡ not added
+was_there true added is = ap not (sym is)
+was_there false added is = ap not (sym is)
+
+-- a pair that is left out
+pub old_walked : (hot : CidSet) (pairs : List (List ℕ × List ℕ)) (met more : BTreeSet (List ℕ)) (places : List ℕ) (i : ℕ) (p : List ℕ × List ℕ)
+    → slice_get pairs i ≡ Some p → (is_some (identity_of p.0) || (finite_set.contains hot p.0 || contains (slice_cmp nat_cmp) met p.0)) ≡ true
+    → more.keys ≡ met.keys → IsWalked hot pairs met places i → IsWalked hot pairs more places (i + 1)
+old_walked hot pairs met more places i p at old same walked = record {
+  so_far = walked.so_far;
+  known = walked.known;
+  are_at = walked.are_at;
+  split = walked.split ∙ ap (λ rest. walked.so_far ++ rest) (from_here walked.known pairs i p _ true at (walked.alike p.0) old);
+  alike = λ c. rw same (walked.alike c);
+}
+
+-- one more CID is met
+met_more : (same a b : Bool) → (same || (a || b)) ≡ (a || cond same true b)
+met_more true true b = refl
+met_more true false b = refl
+met_more false a b = refl
+
+-- a pair that is new, and whose CID is met from then on
+pub new_walked : (hot : CidSet) (pairs : List (List ℕ × List ℕ)) (met more : BTreeSet (List ℕ)) (places : List ℕ) (i : ℕ) (p : List ℕ × List ℕ)
+    → slice_get pairs i ≡ Some p → (is_some (identity_of p.0) || (finite_set.contains hot p.0 || contains (slice_cmp nat_cmp) met p.0)) ≡ false
+    → ((c : List ℕ) → contains (slice_cmp nat_cmp) more c ≡ cond (eq_by_cmp (slice_cmp nat_cmp) p.0 c) true (contains (slice_cmp nat_cmp) met c))
+    → IsWalked hot pairs met places i → IsWalked hot pairs more (places ++ i ∷ []) (i + 1)
+new_walked hot pairs met more places i p at new meets walked = record {
+  so_far = walked.so_far ++ p ∷ [];
+  known = finite_set.insert walked.known p.0;
+  are_at = pair_more pairs places walked.so_far i p at walked.are_at;
+  split = walked.split ∙ ap (λ rest. walked.so_far ++ rest) (from_here walked.known pairs i p _ false at (walked.alike p.0) new) ∙ sym (append_assoc walked.so_far (p ∷ []) _);
+  alike = λ c.
+      contains-insert nat_list_cmp_total walked.known p.0 c
+      ∙ (λ k. (eq_by_cmp_equiv nat_list_cmp_total).symm c p.0 k || walked.alike c k)
+      ∙ met_more _ (finite_set.contains hot c) (contains (slice_cmp nat_cmp) met c)
+      ∙ ap (λ b. finite_set.contains hot c || b) (sym (meets c));
+}
+
+-- all pairs have been walked
+pub all_walked : (hot : CidSet) (pairs : List (List ℕ × List ℕ)) (met : BTreeSet (List ℕ)) (places : List ℕ) (i : ℕ) → length pairs ≤ i → IsWalked hot pairs met places i → ArePairsAt pairs places (new_pairs hot pairs)
+all_walked hot pairs met places i end walked =
+    walked.are_at ∙ ap (map Some) (sym (walked.split ∙ ap (λ rest. walked.so_far ++ new_pairs walked.known rest) (drop_of_length-le pairs end) ∙ append-nil walked.so_far))
+
+-- a count that is not 0
+pub not_empty : (n : ℕ) → false ≡ (n == 0) → 1 ≤ n
+not_empty zero e = absurd (true≢false (sym e))
+not_empty (suc n) e = omega arith

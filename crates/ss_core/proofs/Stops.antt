@@ -1,0 +1,64 @@
+-- How a fault that stops a put or a get is answered.
+use Rattle.std.proofs.Common.{◌≡◌, ◌⊎◌, inl, inr, ℕ, List, Option, refl, sym, subst}
+use Rattle.ss_disk.specs.declared.disk.Disk.{Ghosts}
+use Rattle.ss_records.specs.declared.record.Record.{Record}
+use Rattle.ss_store.specs.declared.fault.StoreFault.{StoreFault}
+use Rattle.ss_store.specs.declared.fault.StoreFault.TheVariants as fault
+use Rattle.ss_model.specs.State.{State}
+use Rattle.ss_model.specs.declared.call.Call.TheVariants as call
+use Rattle.ss_model.specs.declared.call.Answer.TheVariants as answer
+use Rattle.ss_model.specs.declared.call.PutReply.{PutReply}
+use Rattle.ss_model.specs.declared.call.PutReply.TheVariants as put
+use Rattle.ss_model.specs.declared.call.GetReply.{GetReply}
+use Rattle.ss_model.specs.declared.call.GetReply.TheVariants as get
+use Rattle.ss_core.specs.declared.split_core.SplitCore.{SplitCore}
+use Rattle.ss_core.specs.Calls.{Steps, Makes}
+use Rattle.ss_core.specs.Fault.{IsStop, put_fault, get_fault}
+
+-- a fault is one where the log is not full and the file not damaged
+pub is_stop : (f : StoreFault) → ((file need room : ℕ) → f ≡ fault.LogFull file need room → ⊥) → ((file at : ℕ) → f ≡ fault.Damaged file at → ⊥) → IsStop f
+is_stop fault.NoMemory full damaged = tt
+is_stop fault.DiskFault full damaged = tt
+is_stop (fault.LogFull file need room) full damaged = absurd (full file need room refl)
+is_stop (fault.Damaged file at) full damaged = absurd (damaged file at refl)
+
+-- what a call does with both answers it does with the one that is given
+module _ {D : Type 0} {disk : Ghosts D} {old new : SplitCore D disk} where
+  module _ {s : State} {doubt : Option Record} where
+    pub put_steps : {v : ℕ} {pairs : List (List ℕ × List ℕ)} {r : PutReply} (f : StoreFault) → r ≡ put_fault f → IsStop f → (f ≡ fault.NoMemory → Steps old new s doubt (call.Put v pairs) (answer.Put put.NoMemory)) → (f ≡ fault.DiskFault → Steps old new s doubt (call.Put v pairs) (answer.Put put.DiskFault)) → Steps old new s doubt (call.Put v pairs) (answer.Put r)
+    put_steps {v = v} {pairs = pairs} fault.NoMemory is stop memory failed = subst (λ (r : PutReply). Steps old new s doubt (call.Put v pairs) (answer.Put r)) (sym is) (memory refl)
+    put_steps {v = v} {pairs = pairs} fault.DiskFault is stop memory failed = subst (λ (r : PutReply). Steps old new s doubt (call.Put v pairs) (answer.Put r)) (sym is) (failed refl)
+    put_steps (fault.LogFull file need room) is stop memory failed = absurd stop
+    put_steps (fault.Damaged file at) is stop memory failed = absurd stop
+
+    pub get_steps : {v : ℕ} {c : List ℕ} {r : GetReply} (f : StoreFault) → r ≡ get_fault f → IsStop f → (f ≡ fault.NoMemory → Steps old new s doubt (call.Get v c) (answer.Get get.NoMemory)) → (f ≡ fault.DiskFault → Steps old new s doubt (call.Get v c) (answer.Get get.DiskFault)) → Steps old new s doubt (call.Get v c) (answer.Get r)
+    get_steps {v = v} {c = c} fault.NoMemory is stop memory failed = subst (λ (r : GetReply). Steps old new s doubt (call.Get v c) (answer.Get r)) (sym is) (memory refl)
+    get_steps {v = v} {c = c} fault.DiskFault is stop memory failed = subst (λ (r : GetReply). Steps old new s doubt (call.Get v c) (answer.Get r)) (sym is) (failed refl)
+    get_steps (fault.LogFull file need room) is stop memory failed = absurd stop
+    get_steps (fault.Damaged file at) is stop memory failed = absurd stop
+
+  pub put_makes : {v : ℕ} {pairs : List (List ℕ × List ℕ)} {r : PutReply} (f : StoreFault) → r ≡ put_fault f → IsStop f → (f ≡ fault.NoMemory → Makes old new (call.Put v pairs) (answer.Put put.NoMemory)) → (f ≡ fault.DiskFault → Makes old new (call.Put v pairs) (answer.Put put.DiskFault)) → Makes old new (call.Put v pairs) (answer.Put r)
+  put_makes {v = v} {pairs = pairs} fault.NoMemory is stop memory failed = subst (λ (r : PutReply). Makes old new (call.Put v pairs) (answer.Put r)) (sym is) (memory refl)
+  put_makes {v = v} {pairs = pairs} fault.DiskFault is stop memory failed = subst (λ (r : PutReply). Makes old new (call.Put v pairs) (answer.Put r)) (sym is) (failed refl)
+  put_makes (fault.LogFull file need room) is stop memory failed = absurd stop
+  put_makes (fault.Damaged file at) is stop memory failed = absurd stop
+
+  pub get_makes : {v : ℕ} {c : List ℕ} {r : GetReply} (f : StoreFault) → r ≡ get_fault f → IsStop f → (f ≡ fault.NoMemory → Makes old new (call.Get v c) (answer.Get get.NoMemory)) → (f ≡ fault.DiskFault → Makes old new (call.Get v c) (answer.Get get.DiskFault)) → Makes old new (call.Get v c) (answer.Get r)
+  get_makes {v = v} {c = c} fault.NoMemory is stop memory failed = subst (λ (r : GetReply). Makes old new (call.Get v c) (answer.Get r)) (sym is) (memory refl)
+  get_makes {v = v} {c = c} fault.DiskFault is stop memory failed = subst (λ (r : GetReply). Makes old new (call.Get v c) (answer.Get r)) (sym is) (failed refl)
+  get_makes (fault.LogFull file need room) is stop memory failed = absurd stop
+  get_makes (fault.Damaged file at) is stop memory failed = absurd stop
+
+-- one of the two is a stop
+pub either_stop : (f : StoreFault) → (f ≡ fault.NoMemory) ⊎ (f ≡ fault.DiskFault) → IsStop f
+either_stop fault.NoMemory which = tt
+either_stop fault.DiskFault which = tt
+either_stop (fault.LogFull file need room) (inl is) = absurd (let differ : ⊥ = cc (is) in differ)
+either_stop (fault.LogFull file need room) (inr is) = absurd (let differ : ⊥ = cc (is) in differ)
+either_stop (fault.Damaged file at) (inl is) = absurd (let differ : ⊥ = cc (is) in differ)
+either_stop (fault.Damaged file at) (inr is) = absurd (let differ : ⊥ = cc (is) in differ)
+
+-- what a fault other than the disk's leaves
+pub unless_disk : (f : StoreFault) (P : Type 0) → f ≡ fault.NoMemory → (f ≡ fault.DiskFault) ⊎ P → P
+unless_disk f P wanting (inl failed) = absurd (let differ : ⊥ = cc (wanting, failed) in differ)
+unless_disk f P wanting (inr same) = same

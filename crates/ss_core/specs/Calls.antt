@@ -1,0 +1,46 @@
+-- What a call of a store does: to the state that it stands for, and over any disk.
+use Rattle.std.specs.Prelude.{◌≡◌, ◌⊎◌, ℕ, ◌+◌, ◌≤◌, true, false, Option, IsTrue}
+use Rattle.ss_disk.specs.declared.disk.Disk.{Ghosts}
+use Rattle.ss_disk.specs.Disk.{Rose}
+use Rattle.ss_disk.specs.Calls.{Touches, Leaves}
+use Rattle.ss_records.specs.declared.record.Record.{Record}
+use Rattle.ss_hot.specs.Store.{room_of}
+use Rattle.ss_model.specs.State.{State}
+use Rattle.ss_model.specs.Lawful.{Lawful, After, is_disk_fault, is_no_memory}
+use Rattle.ss_model.specs.declared.call.Call.{Call}
+use Rattle.ss_model.specs.declared.call.Answer.{Answer}
+use Rattle.ss_model.specs.declared.call.Answer.TheVariants as answer
+use Rattle.ss_model.specs.declared.call.PutReply.TheVariants as put
+use Rattle.ss_core.specs.declared.split_core.SplitCore.{SplitCore}
+use Rattle.ss_core.specs.Effect.{effect_of, bytes_of, Doubts}
+use Rattle.ss_core.specs.StandsFor.{StandsFor, HasEitherState}
+
+-- The step of a store that stood for s, where this record was in doubt, over a disk that exposes its files: the answer is lawful
+-- at s, and the store stands for the state after it. Each image since the call began has one of the two states, with or without
+-- the record that was in doubt or the one that the call may leave so.
+pub record Steps {D : Type 0} {disk : Ghosts D} (old new : SplitCore D disk) (s : State) (doubt : Option Record) (call : Call) (answer : Answer) : Type 0 where
+  pub lawful : Lawful s call answer
+  pub now : Option Record
+  pub doubts : Doubts (effect_of s call answer) doubt now
+  pub after : StandsFor new (After s call answer) now
+  pub end : new.hot.log.end ≡ old.hot.log.end + bytes_of (effect_of s call answer).writes
+  pub roomy : bytes_of (effect_of s call answer).writes + bytes_of (effect_of s call answer).doubts ≤ room_of old.hot
+  pub stops : Leaves disk old.hot.log.file (λ file. HasEitherState s doubt file ⊎ HasEitherState (After s call answer) (effect_of s call answer).doubts file) old.disk new.disk
+
+-- the numbers of a full log satisfy P
+abbrev pub OfFullLog : (ℕ → ℕ → ℕ → Type 0) → Answer → Type 0
+OfFullLog P (answer.Put (put.LogFull file need room)) = P file need room
+OfFullLog P _ = Unit {0}
+
+-- What a call does over any disk: a fault that the disk counted is answered as one, and nothing else is; a full log has just the
+-- room that was left; out of memory leaves each file as it was where no record was in doubt.
+pub record Makes {D : Type 0} {disk : Ghosts D} (old new : SplitCore D disk) (call : Call) (answer : Answer) : Type 0 where
+  pub fault : IsTrue (is_disk_fault answer) → Rose (disk.faults old.disk) (disk.faults new.disk)
+  pub no_fault : IsTrue (is_disk_fault answer) ⊎ (disk.faults new.disk ≡ disk.faults old.disk)
+  pub full : OfFullLog (λ file need room. (file ≡ old.hot.log.file) × (room ≡ room_of old.hot)) answer
+  pub memory : IsTrue (is_no_memory answer) → old.hot.log.unsure ≡ false → new.disk ≡ old.disk
+  pub still : ((s : State) → (effect_of s call answer).reaches ≡ false) → new.disk ≡ old.disk
+  pub settled : (s : State) → (effect_of s call answer).settles ≡ true → new.hot.log.unsure ≡ false
+  pub settings : new.hot.settings ≡ old.hot.settings
+  pub file : new.hot.log.file ≡ old.hot.log.file
+  pub touches : Touches disk old.hot.log.file old.disk new.disk

@@ -1,0 +1,11 @@
+pub mod Blocks
+pub mod Calls
+pub mod Effect
+pub mod Fault
+pub mod Fresh
+pub mod Puts
+pub mod StandsFor
+pub mod Views
+pub use Rattle.ss_disk.specs.Calls as DiskCalls
+pub use Rattle.ss_model.specs.Lawful
+pub use Rattle.ss_model.specs.State

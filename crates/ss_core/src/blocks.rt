@@ -1,0 +1,97 @@
+//! Which blocks may be stored, and how many bytes a record of them has.
+
+ghost use Rattle.std.specs.Prelude.{◌≡◌, ◌^◌, ◌<◌, OnOk, IfErr, IsOk, MatchOption};
+ghost use Rattle.ss_model.specs.Lawful.{IsSound, AreSound, IsDagCbor, IsFirstFault, body_bytes};
+ghost use Rattle.ss_cbor.specs.Fault.{scanned};
+ghost use Rattle.ss_core.specs.Blocks.{IsFaultOf, IsMalformed, refusal_of};
+
+use ss_cbor::{CborKind, scan};
+use ss_cid::{Cid, Codec, Parcel};
+use ss_hash::{HashFault, check};
+use ss_model::{BLOCK_BYTES, PutReply};
+
+/// Why a block is not stored.
+#[derive(Clone, Copy, Debug, PartialEq, Eq)]
+pub enum BlockFault {
+    /// The CID and the block are too long.
+    TooLarge,
+    /// The CID's hash function is not known.
+    UnknownHash,
+    /// The bytes are not those that the CID names.
+    Mismatch,
+    /// The block is not one item.
+    Malformed { kind: CborKind, at: u32 },
+}
+
+impl BlockFault {
+    /// The refusal of a put by this fault of its pair at place `i`.
+    pub fn refusal(self, i: u32) -> PutReply
+        ensures { result ≡ refusal_of self i }
+    {
+        match self {
+            BlockFault::TooLarge => PutReply::TooLarge { i },
+            BlockFault::UnknownHash => PutReply::UnknownHash { i },
+            BlockFault::Mismatch => PutReply::Mismatch { i },
+            BlockFault::Malformed { kind, at } => PutReply::Malformed { i, kind, at },
+        }
+    }
+}
+
+/// Whether a block may be stored: no longer than a block may be, valid for its CID, and under dag-cbor one item.
+pub fn check_block(cid: &Cid, block: &[u8]) -> Result<(), BlockFault>
+    ensures sound { OnOk result (IsSound (cid.now, block.now)) }
+    ensures fault { IfErr result (IsFaultOf (cid.now, block.now)) }
+{
+    if cid.as_bytes().len() + block.len() > BLOCK_BYTES {
+        return Err(BlockFault::TooLarge);
+    }
+    match check(cid, block) {
+        Ok(()) => check_item(cid, block),
+        Err(HashFault::UnknownHash { .. }) => Err(BlockFault::UnknownHash),
+        Err(HashFault::Mismatch { .. }) => Err(BlockFault::Mismatch),
+        Err(HashFault::NotIdentity { .. }) => Err(BlockFault::Mismatch),
+    }
+}
+
+// Whether a valid block is one item, where its codec asks for that.
+fn check_item(cid: &Cid, block: &[u8]) -> Result<(), BlockFault>
+    ensures sound { OnOk result (IsDagCbor cid.now → IsOk (scanned block.now)) }
+    ensures fault { IfErr result (IsMalformed (cid.now, block.now)) }
+{
+    if cid.codec() != Codec::DagCbor {
+        return Ok(());
+    }
+    match scan(block) {
+        Ok(_) => Ok(()),
+        Err(fault) => Err(BlockFault::Malformed {
+            kind: fault.kind,
+            at: u32::try_from(fault.at).unwrap_or(u32::MAX),
+        }),
+    }
+}
+
+/// The refusal of a put by the first pair of its parcel that may not be stored.
+pub fn first_fault(parcel: &Parcel) -> Option<PutReply>
+    ensures { MatchOption result (AreSound parcel.now) (IsFirstFault parcel.now) }
+{
+    for i in 0..parcel.len() {
+        let (cid, block) = parcel.at(i);
+        if let Err(fault) = check_block(&cid, block) {
+            return Some(fault.refusal(i as u32));
+        }
+    }
+    None
+}
+
+/// The bytes of the body of a record of these blocks.
+pub fn body_bytes(blocks: &Parcel) -> u64
+    requires { body_bytes blocks.now < 2 ^ 64 }
+    ensures { result ≡ body_bytes blocks.now }
+{
+    let mut bytes = 3u64;
+    for i in 0..blocks.len() {
+        let (cid, block) = blocks.at(i);
+        bytes += (cid.as_bytes().len() + 4 + block.len()) as u64;
+    }
+    bytes
+}

@@ -1,0 +1,145 @@
+//! The store over its disk.
+
+ghost use Rattle.std.specs.Prelude.{◌≡◌, ◌+◌, ◌^◌, ◌<◌, ◌≤◌, List, length, false, Err, None, Option, IsTrue, IsOk, IfOk, IfErr, OnOk, option_map};
+ghost use Rattle.std.specs.FinMap as finite_map;
+ghost use Rattle.std.specs.FinSet as finite_set;
+ghost use Rattle.ss_records.specs.declared.record.Record.{Record};
+ghost use Rattle.ss_store.specs.declared.fault.StoreFault.{StoreFault};
+
+mod get;
+mod put;
+
+use crate::views::Views;
+use ss_cid::Cid;
+use ss_disk::Disk;
+use ss_hot::HotStore;
+use ss_model::{Answer, Call, ViewReply};
+use ss_store::StoreFault;
+use std::alloc::Global;
+
+/// Why parts make no store.
+#[derive(Clone, Copy, Debug, PartialEq, Eq)]
+pub enum PartsFault {
+    /// More CIDs are kept than the setting `rows`.
+    TooMany {
+        /// How many.
+        kept: u64,
+    },
+}
+
+/// The file of the hot log.
+const HOT: u8 = 0;
+
+/// A store: the disk that it owns, what it knows of the files there, and which views are open.
+///
+/// A fault of the disk may leave the last record in doubt. It counts for nothing, and the next call that goes to the disk undoes
+/// it first; after a crash before that, the next run may find it.
+#[derive(Drop)]
+pub struct SplitCore<D: Disk> {
+    disk: D,
+    hot: HotStore,
+    views: Views,
+    ghost file: { hot.log.file ≡ 0 },
+    ghost limit: { hot.log.limit ≡ hot.settings.limit },
+    ghost known: { hot.log.end + 1 ≤ D.known disk hot.log.file },
+}
+
+impl<D: Disk> SplitCore<D> {
+    ghost use Rattle.ss_disk.specs.Calls.{Touches};
+    ghost use Rattle.ss_gatelog.specs.Faults.{CountsFault};
+    ghost use Rattle.ss_store.specs.declared.fault.StoreFault.TheVariants as fault;
+    ghost use Rattle.ss_hot.specs.Store.{Keeps, SameButDoubt};
+    ghost use Rattle.ss_model.specs.State.{State};
+    ghost use Rattle.ss_model.specs.declared.call.Call.TheVariants as call_kind;
+    ghost use Rattle.ss_model.specs.declared.call.Answer.TheVariants as answer;
+    ghost use Rattle.ss_core.specs.Calls.{Steps, Makes};
+    ghost use Rattle.ss_core.specs.Puts.{Settles};
+    ghost use Rattle.ss_core.specs.StandsFor.{IsLeftBy, StandsFor};
+
+    /// The store of these parts, in which no view is open. The disk is not called.
+    ///
+    /// `TooMany` exactly where more CIDs are kept than the setting `rows`; it gives the disk back.
+    pub fn from_parts(disk: D, hot: HotStore) -> Result<SplitCore<D>, (PartsFault, D)>
+        requires sure { hot.log.unsure ≡ false }
+        requires log { (hot.log.file ≡ 0) × (hot.log.limit ≡ hot.settings.limit) }
+        requires known { hot.log.end + 1 ≤ D.known disk hot.log.file }
+        ensures parts { IfOk result (λ core. (core.disk ≡ disk) × (core.hot ≡ hot)) }
+        ensures stands { (records : List Record) (s : State) → IsTrue D.told → Keeps D.Disk disk hot records records → IsLeftBy hot.settings records s → s.views ≡ finite_set.empty → IfOk result (λ core. StandsFor core s None) }
+        ensures few { OnOk result (finite_map.len hot.places ≤ hot.settings.rows) }
+        ensures many { IfErr result (λ (fault, back). (fault ≡ PartsFault.TooMany (finite_map.len hot.places)) × (hot.settings.rows < finite_map.len hot.places) × (back ≡ disk)) }
+    {
+        let kept = hot.count();
+        if kept > u64::from(hot.config().rows) {
+            return Err((PartsFault::TooMany { kept }, disk));
+        }
+        Ok(SplitCore {
+            disk,
+            hot,
+            views: Views::new(),
+        })
+    }
+
+    /// The disk, as it is.
+    pub fn into_disk(self) -> D
+        ensures { result ≡ self.disk }
+    {
+        let SplitCore {
+            disk,
+            hot: _,
+            views: _,
+        } = self;
+        disk
+    }
+
+    /// Makes the call, and answers as the method of its name does.
+    pub fn call(&mut self, alloc: Global, call: &Call) -> Answer
+        ensures told { IsTrue D.told → (s : State) (doubt : Option Record) → StandsFor self.old s doubt → Steps self.old self.new s doubt call.now result }
+        ensures made { Makes self.old self.new call.now result }
+    {
+        match call {
+            Call::OpenView => Answer::View(self.open_view()),
+            Call::Put { view, parcel } => Answer::Put(self.put(alloc, *view, parcel)),
+            Call::Get { view, cid } => Answer::Get(self.get(alloc, *view, cid)),
+        }
+    }
+
+    /// Opens the view of the least number below `VIEWS` that is not open: `TooManyViews` exactly where all are.
+    pub fn open_view(&mut self) -> ViewReply
+        ensures told { IsTrue D.told → (s : State) (doubt : Option Record) → StandsFor self.old s doubt → Steps self.old self.new s doubt call_kind.OpenView (answer.View result) }
+        ensures made { Makes self.old self.new call_kind.OpenView (answer.View result) }
+    {
+        match self.views.open() {
+            Some(view) => ViewReply::Opened(view),
+            None => ViewReply::TooManyViews,
+        }
+    }
+
+    // Settles a log in doubt: the record that was in doubt does not count. The disk is called for no other log.
+    fn settle(&mut self) -> Result<(), StoreFault>
+        ensures told { IsTrue D.told → (s : State) (doubt : Option Record) → StandsFor self.old s doubt → Settles self.old self.new s doubt result }
+        ensures same { SameButDoubt self.old.hot self.new.hot }
+        ensures views { self.new.views ≡ self.old.views }
+        ensures sure { self.old.hot.log.unsure ≡ false → IsOk result × (self.new.hot ≡ self.old.hot) × (self.new.disk ≡ self.old.disk) }
+        ensures settled { OnOk result (self.new.hot.log.unsure ≡ false) }
+        ensures errors { (e : StoreFault) → result ≡ Err e → e ≡ fault.DiskFault }
+        ensures counts { CountsFault fault.DiskFault (D.faults self.old.disk) (D.faults self.new.disk) result }
+        ensures touches { Touches D.Disk self.old.hot.log.file self.old.disk self.new.disk }
+    {
+        self.hot.settle(&mut self.disk)
+    }
+
+    // How many bytes are kept under a CID, None where it is not kept. What is kept is hot.
+    fn kept_len(&self, cid: &Cid) -> Option<u32>
+        ensures { (s : State) (doubt : Option Record) → StandsFor self.now s doubt → result ≡ option_map (λ block. length block) (finite_map.get s.kept cid.now) }
+    {
+        self.hot.size(cid)
+    }
+
+    // How many CIDs are kept.
+    fn kept_count(&self) -> u64
+        ensures count { result ≡ finite_map.len self.now.hot.places }
+        ensures few { result < 2 ^ 63 }
+    {
+        self.hot.count()
+    }
+}

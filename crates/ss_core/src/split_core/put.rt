@@ -1,0 +1,128 @@
+//! Puts.
+
+ghost use Rattle.std.specs.Prelude.{◌≡◌, ◌-◌, ◌^◌, ◌≤◌, ℕ, List, [], min, Option, IsTrue, MatchOption};
+ghost use Rattle.ss_records.specs.declared.record.Record.{Record};
+
+use super::{HOT, SplitCore};
+use crate::blocks::{body_bytes, first_fault};
+use crate::fault::put_fault;
+use crate::fresh::{Fresh, fresh_blocks};
+use ss_cid::{Cid, NoMemory, Parcel};
+use ss_disk::Disk;
+use ss_model::{PUT_BLOCKS, PUT_BYTES, PutReply};
+use std::alloc::Global;
+
+impl<D: Disk> SplitCore<D> {
+    ghost use Rattle.ss_records.specs.declared.record.Record.TheVariants as record_kind;
+    ghost use Rattle.ss_records.specs.Record.{Fits};
+    ghost use Rattle.ss_hot.specs.Store.{AreNotHot};
+    ghost use Rattle.ss_model.specs.State.{State};
+    ghost use Rattle.ss_model.specs.Lawful.{IsPassed, IsPutRefusal, body_bytes, new_pairs, pair_bytes, put_bytes, written_bytes};
+    ghost use Rattle.ss_model.specs.declared.TheConstants.{PUT_BYTES};
+    ghost use Rattle.ss_model.specs.declared.call.Call.TheVariants as call_kind;
+    ghost use Rattle.ss_model.specs.declared.call.Answer.TheVariants as answer;
+    ghost use Rattle.ss_core.specs.Calls.{Steps, Makes};
+    ghost use Rattle.ss_core.specs.Puts.{IsReady, IsRefusal};
+    ghost use Rattle.ss_core.specs.StandsFor.{StandsFor};
+
+    /// Stores the blocks of a parcel that are new, by one record. A log in doubt is settled first.
+    ///
+    /// The first that applies: `BadView`; `TooMany`; `TooBig`; the fault of the first pair that has one; `NoMemory`;
+    /// `TableFull`; `LogFull`; `DiskFault`, after which the record may be in doubt; `Stored`. All refusals leave what is
+    /// kept. The disk is called only for `DiskFault`, for `Stored`, and for `NoMemory` if a record was in doubt.
+    pub fn put(&mut self, alloc: Global, view: u32, parcel: &Parcel) -> PutReply
+        ensures told { IsTrue D.told → (s : State) (doubt : Option Record) → StandsFor self.old s doubt → Steps self.old self.new s doubt (call_kind.Put view parcel.now) (answer.Put result) }
+        ensures made { Makes self.old self.new (call_kind.Put view parcel.now) (answer.Put result) }
+    {
+        if let Some(refusal) = self.put_refusal(view, parcel) {
+            return refusal;
+        }
+        match fresh_blocks(alloc, &self.hot, parcel) {
+            Ok(Fresh::Nothing) => self.put_nothing(),
+            Ok(Fresh::All) => self.put_fresh(alloc, parcel),
+            Ok(Fresh::Part(fresh)) => self.put_fresh(alloc, &fresh),
+            Err(NoMemory) => PutReply::NoMemory,
+        }
+    }
+
+    // A put of blocks of which none is new: no record is written, but a record that is in doubt is undone.
+    fn put_nothing(&mut self) -> PutReply
+        ensures told { IsTrue D.told → (s : State) (doubt : Option Record) (view : ℕ) (pairs : List (List ℕ × List ℕ)) → StandsFor self.old s doubt → IsPassed s view pairs → new_pairs s.hot pairs ≡ [] → Steps self.old self.new s doubt (call_kind.Put view pairs) (answer.Put result) }
+        ensures made { (view : ℕ) (pairs : List (List ℕ × List ℕ)) → Makes self.old self.new (call_kind.Put view pairs) (answer.Put result) }
+    {
+        match self.settle() {
+            Ok(()) => PutReply::Stored { new: 0 },
+            Err(fault) => put_fault(fault),
+        }
+    }
+
+    // A put of these blocks, none of which is hot.
+    fn put_fresh(&mut self, alloc: Global, fresh: &Parcel) -> PutReply
+        requires blocks { Fits (record_kind.Put fresh.now) }
+        requires short { body_bytes fresh.now ≤ PUT_BYTES }
+        requires new { AreNotHot self.old.hot fresh.now }
+        ensures told { IsTrue D.told → (s : State) (doubt : Option Record) (view : ℕ) (pairs : List (List ℕ × List ℕ)) → StandsFor self.old s doubt → IsPassed s view pairs → new_pairs s.hot pairs ≡ fresh.now → Steps self.old self.new s doubt (call_kind.Put view pairs) (answer.Put result) }
+        ensures made { (view : ℕ) (pairs : List (List ℕ × List ℕ)) → Makes self.old self.new (call_kind.Put view pairs) (answer.Put result) }
+    {
+        let rows = self.kept_count() + fresh.len() as u64;
+        if rows > u64::from(self.hot.config().rows) {
+            return PutReply::TableFull { rows };
+        }
+        let need = 5 + body_bytes(fresh);
+        let room = self.hot.room();
+        if need > room {
+            let file = HOT;
+            return PutReply::LogFull { file, need, room };
+        }
+        if let Err(fault) = self.settle() {
+            return put_fault(fault);
+        }
+        match self.hot.put_batch(alloc, &mut self.disk, fresh) {
+            Ok(()) => PutReply::Stored {
+                new: fresh.len() as u32,
+            },
+            Err(fault) => put_fault(fault),
+        }
+    }
+
+    // The refusal of a put that the state and the parcel decide.
+    fn put_refusal(&self, view: u32, parcel: &Parcel) -> Option<PutReply>
+        ensures decides { (s : State) (doubt : Option Record) → StandsFor self.now s doubt → MatchOption result (IsPassed s view parcel.now) (IsPutRefusal s view parcel.now) }
+        ensures ready { MatchOption result (IsReady parcel.now) IsRefusal }
+    {
+        if !self.views.contains(view) {
+            return Some(PutReply::BadView);
+        }
+        if parcel.len() > PUT_BLOCKS {
+            let n = parcel.len() as u32;
+            return Some(PutReply::TooMany { n });
+        }
+        let bytes = self.put_bytes(parcel);
+        if bytes > PUT_BYTES {
+            return Some(PutReply::TooBig { bytes });
+        }
+        first_fault(parcel)
+    }
+
+    // The bytes that a put of a parcel takes, 2^64 - 1 at the most.
+    fn put_bytes(&self, parcel: &Parcel) -> u64
+        ensures least { min (body_bytes parcel.now) (2 ^ 64 - 1) ≤ result }
+        ensures all { (s : State) (doubt : Option Record) → StandsFor self.now s doubt → result ≡ min (put_bytes s.kept parcel.now) (2 ^ 64 - 1) }
+    {
+        let mut bytes = 3u64;
+        for i in 0..parcel.len() {
+            let (cid, block) = parcel.at(i);
+            bytes = bytes.saturating_add(self.pair_bytes(&cid, block));
+        }
+        bytes
+    }
+
+    // The bytes that a pair takes of a put.
+    fn pair_bytes(&self, cid: &Cid, block: &[u8]) -> u64
+        ensures least { written_bytes (cid.now, block.now) ≤ result }
+        ensures all { (s : State) (doubt : Option Record) → StandsFor self.now s doubt → result ≡ pair_bytes s.kept (cid.now, block.now) }
+    {
+        let kept = self.kept_len(cid).unwrap_or(0);
+        cid.as_bytes().len() as u64 + 4 + block.len().max(kept as usize) as u64
+    }
+}

@@ -1,0 +1,2 @@
+mod Makings
+pub mod Openings

@@ -1,0 +1,82 @@
+-- What making a store does to the files.
+use Rattle.std.proofs.Common.{◌≡◌, inl, inr, ⊎_elim, ℕ, ◌+◌, ◌<◌, ◌≤◌, true, false, List, [], refl, sym, ap, ◌∙◌, subst, true≢false, arith}
+use Rattle.std.specs.Prelude.{IsTrue, Result, Ok, Err, is_err, IfOk, OnOk, OnErr}
+use Rattle.std.proofs.lemmas.Bool.{cases_lt}
+use Rattle.ss_disk.specs.declared.disk.Disk.{Ghosts}
+use Rattle.ss_disk.specs.Disk.{Files, Torn, Same, Changes}
+use Rattle.ss_disk.specs.Calls.{Goes, Touches}
+use Rattle.ss_disk.proofs.Goes.{goes_on}
+use Rattle.ss_disk.proofs.Moments as moments
+use Rattle.ss_gatelog.specs.Log.{Spells, HasList}
+use Rattle.ss_gatelog.specs.GateLog.{Log, IsSure}
+use Rattle.ss_open.specs.Making.{KeepsFirst, EmptiesFirst}
+use Rattle.ss_open.specs.Opening.{AreEmptyBeside}
+
+-- what holds where a call succeeds
+pub when_ok : {T E : Type 0} (r : Result T E) (P : Type 0) → is_err r ≡ false → OnOk r P → P
+when_ok (Ok x) P is h = h
+when_ok (Err e) P is h = absurd (true≢false is)
+
+-- what holds where it fails
+pub when_err : {T E : Type 0} (r : Result T E) (P : Type 0) → is_err r ≡ true → OnErr r P → P
+when_err (Ok x) P is h = absurd (true≢false (sym is))
+when_err (Err e) P is h = h
+
+-- a log that was created is empty in each image
+pub created : {D E : Type 0} (disk : Ghosts D) (now : D) (r : Result Log E) (file limit : ℕ) → is_err r ≡ false
+    → IfOk r (λ log. log ≡ record { file = file; limit = limit; end = 0; unsure = false }) → IfOk r (λ log. IsSure disk now log [])
+    → (left : Files) → disk.image now (disk.moment now) left → Spells [] (left file)
+created disk now (Ok log) file limit ok is sure left image = subst (λ (f : ℕ). Spells [] (left f)) (ap (λ (l : Log). l.file) is) (sure.each left image)
+created disk now (Err e) file limit ok is sure left image = absurd (true≢false ok)
+
+module _ {D : Type 0} (disk : Ghosts D) where
+  -- a file that is not the hot log's changes, after others
+  pub first_stays : (file : ℕ) (was old new : D) → 1 ≤ file → Goes disk KeepsFirst was old → Goes disk (Changes file (Torn 0 1)) old new → Goes disk KeepsFirst was new
+  first_stays file was old new some before goes =
+      goes_on disk was old new KeepsFirst (Changes file (Torn 0 1)) KeepsFirst before goes (λ a b kept. kept) (λ a b c kept changes. changes.elsewhere 0 (λ is. omega (arith, some, is)) ∙ kept)
+
+  -- no file has changed yet
+  pub none_yet : (now : D) → Goes disk KeepsFirst now now
+  none_yet now = record { files = λ told. refl; images = λ told. moments.stays (disk.moment now) (disk.image now) KeepsFirst (λ files. refl); known = λ file. omega arith; faults = omega arith; place = refl }
+
+  module _ (told : IsTrue disk.told) (limit : ℕ) where
+    -- one file more is an empty log, and those in front of it stay so
+    pub emptied_more : (file : ℕ) (old new : D) → 1 ≤ limit → Goes disk (Changes file (Torn 0 1)) old new → ((left : Files) → disk.image new (disk.moment new) left → Spells [] (left file))
+        → ((left : Files) → disk.image old (disk.moment old) left → (g : ℕ) → 1 ≤ g → g < file → HasList limit (left g) [])
+        → (left : Files) → disk.image new (disk.moment new) left → (g : ℕ) → 1 ≤ g → g < file + 1 → HasList limit (left g) []
+    emptied_more file old new some goes spells before left now g low high = elim (cases_lt g file) [
+      | inl below ↦
+          let from = moments.now_from (disk.moment old) (disk.moment new) (disk.image old) (disk.image new) (Changes file (Torn 0 1)) (goes.images told) left now in
+          subst (λ (bytes : List ℕ). HasList limit bytes []) (sym (from.2.elsewhere g (λ same. omega (arith, below, same)))) (before from.0 from.1 g low below)
+      | inr above ↦
+          let same : g ≡ file = omega (arith, above, high) in
+          subst (λ (h : ℕ). HasList limit (left h) []) (sym same) (inr (record { spells = spells left now; bodies = tt; within = some }))
+    ]
+
+    -- files that were emptied stay so where the hot log alone changes
+    still_empty : (a b : Files) → AreEmptyBeside limit a → Changes 0 (λ _ _. Unit {0}) a b → AreEmptyBeside limit b
+    still_empty a b empty changes file low high = subst (λ (bytes : List ℕ). HasList limit bytes []) (sym (changes.elsewhere file (λ is. omega (arith, low, is)))) (empty file low high)
+
+    pub empty_still : (old new : D) → Touches disk 0 old new → ((left : Files) → disk.image old (disk.moment old) left → AreEmptyBeside limit left) → (left : Files) → disk.image new (disk.moment new) left → AreEmptyBeside limit left
+    empty_still old new touches before left now =
+        let from = moments.now_from (disk.moment old) (disk.moment new) (disk.image old) (disk.image new) (Changes 0 (λ _ _. Unit {0})) (touches.images told) left now in
+        still_empty from.0 left (before from.0 from.1) from.2
+
+    -- the other files alone changed
+    pub emptying : (old new : D) → Goes disk KeepsFirst old new → EmptiesFirst disk limit old new
+    emptying old new goes = moments.widens (disk.moment old) (disk.moment new) (disk.image old) (disk.image new) KeepsFirst _ (goes.images told) (λ a b left kept. inl kept)
+
+    -- once they are empty logs the hot log changes
+    pub writing : (old mid new : D) → Goes disk KeepsFirst old mid → ((left : Files) → disk.image mid (disk.moment mid) left → AreEmptyBeside limit left) → Touches disk 0 mid new → EmptiesFirst disk limit old new
+    writing old mid new first empty second =
+        moments.goes_on (disk.moment old) (disk.moment mid) (disk.moment new) (disk.image old) (disk.image mid) (disk.image new) KeepsFirst (Changes 0 (λ _ _. Unit {0})) _ (first.images told) (second.images told) (λ a b left kept. inl kept)
+        (λ a b c left kept left' changes. inr (still_empty b c (empty b left') changes))
+
+    -- before all that files are read
+    pub after_reading : (old mid new : D) → Goes disk Same old mid → EmptiesFirst disk limit mid new → EmptiesFirst disk limit old new
+    after_reading old mid new same empties =
+        moments.goes_on (disk.moment old) (disk.moment mid) (disk.moment new) (disk.image old) (disk.image mid) (disk.image new) Same _ _ (same.images told) empties (λ a b left is. inl (ap (λ (f : Files). f 0) is))
+        (λ a b c left is left' either. ⊎_elim (λ kept. inl (kept ∙ ap (λ (f : Files). f 0) is)) (λ empty. inr empty) either)
+
+    pub only_read : (old new : D) → Goes disk Same old new → EmptiesFirst disk limit old new
+    only_read old new same = moments.widens (disk.moment old) (disk.moment new) (disk.image old) (disk.image new) Same _ (same.images told) (λ a b left is. inl (ap (λ (f : Files). f 0) is))

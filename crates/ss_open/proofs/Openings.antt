@@ -1,0 +1,161 @@
+-- The state that a file has when its store is opened, and when it is made.
+use Rattle.std.proofs.Common.{◌≡◌, ◌⊎◌, inl, inr, ⊎_elim, ℕ, ◌<◌, ◌≤◌, false, List, [], length, None, refl, sym, ap, ◌∙◌, subst, arith}
+use Rattle.std.specs.Prelude.{is_some, Result, Err, slice_index}
+use Rattle.std.proofs.lemmas.Bool.{cases_lt}
+use Rattle.std.specs.Ordering.{nat_cmp}
+use Rattle.std.specs.Cmp.Lexicographic.{slice_cmp, nat_list_cmp_total}
+use Rattle.std.specs.FinMap as finite_map
+use Rattle.std.specs.FinMap.{contains_key-keys, get-empty}
+use Rattle.std.specs.FinSet as finite_set
+use Rattle.std.specs.FinSet.{contains-from_list, contains-empty}
+use Rattle.ss_disk.specs.declared.disk.Disk.{Ghosts}
+use Rattle.ss_disk.specs.Disk.{Same}
+use Rattle.ss_disk.specs.Calls.{Goes}
+use Rattle.ss_gatelog.specs.Faults.{CountsFault}
+use Rattle.ss_gatelog.specs.Log.{spelled}
+use Rattle.ss_records.specs.declared.record.Config.{Config as Settings}
+use Rattle.ss_records.specs.declared.record.Record.{Record}
+use Rattle.ss_store.specs.Append.{bodies}
+use Rattle.ss_store.specs.declared.fault.StoreFault.{StoreFault}
+use Rattle.ss_store.specs.declared.fault.StoreFault.TheVariants as store_fault
+use Rattle.ss_hot.specs.Half.{hot_blocks, head_of, base_of}
+use Rattle.ss_hot.specs.File.{HasSettings, IsHalf}
+use Rattle.ss_hot.proofs.EachReading.{each_reading}
+use Rattle.ss_hot.proofs.Places.{places_len}
+use Rattle.ss_hot.proofs.Readings.{settings_once, records_once, apart, place_once}
+use Rattle.ss_hot.specs.Store.{Hot, Keeps}
+use Rattle.ss_model.specs.State.{State, empty_state}
+use Rattle.ss_core.specs.declared.split_core.SplitCore.{SplitCore}
+use Rattle.ss_core.specs.StandsFor.{IsLeftBy, HasState, StandsFor}
+use Rattle.ss_core.proofs.Images.{end_of}
+use Rattle.ss_core.proofs.Settling.{keeps_sure}
+use Rattle.ss_open.specs.Fault.{IsOpeningFault, open_fault}
+use Rattle.ss_open.specs.Making.{first_records}
+use Rattle.ss_open.specs.Opening.{HasTooMany, IsDamagedStore, IsOpenFault, Opens}
+use Rattle.ss_open.specs.declared.fault.OpenFault.{OpenFault}
+use Rattle.ss_open.specs.declared.fault.OpenFault.TheVariants as opening
+
+-- the state that records leave, in which no view is open
+abbrev pub state_of : Settings → List Record → State
+state_of settings records = record {
+  config = settings;
+  kept = hot_blocks records;
+  hot = finite_set.from_list (finite_map.keys (hot_blocks records));
+  head = head_of records;
+  base = (base_of records).0;
+  ended = (base_of records).1;
+  views = finite_set.empty;
+}
+
+left_so : (settings : Settings) (records : List Record) → finite_map.len (hot_blocks records) ≤ settings.rows → IsLeftBy settings records (state_of settings records)
+left_so settings records few = record {
+  config = refl;
+  kept = refl;
+  hot = λ c. contains-from_list nat_list_cmp_total (finite_map.keys (hot_blocks records)) c ∙ sym (contains_key-keys (hot_blocks records) c);
+  head = refl;
+  base = refl;
+  rows = few;
+}
+
+-- as many blocks are kept as have a place
+pub as_many : {D : Type 0} (disk : Ghosts D) (now : D) (hot : Hot) (records others : List Record) → Keeps disk now hot records others → finite_map.len hot.places ≡ finite_map.len (hot_blocks records)
+as_many disk now hot records others keeps = ap finite_map.len keeps.tells.places ∙ places_len hot.log.file records
+
+-- a store that was opened stands for the state that its file has
+pub opened : {D : Type 0} (disk : Ghosts D) (now : D) (file : List ℕ) (hot : Hot) (core : SplitCore D disk) (records : List Record) → IsHalf file hot.settings records → Keeps disk now hot records [] → hot.log.unsure ≡ false → core.hot ≡ hot → finite_map.len hot.places ≤ hot.settings.rows
+    → ((s : State) → Keeps disk now hot records records → IsLeftBy hot.settings records s → s.views ≡ finite_set.empty → StandsFor core s None) → (s : State) × HasState file core.hot.log.end s × StandsFor core s None
+opened disk now file hot core records half keeps sure same few stands =
+    let left = left_so hot.settings records (omega (arith, as_many disk now hot records [] keeps, few)) in (
+      state_of hot.settings records,
+      record { settings = hot.settings; records = records; half = half; state = left; closed = refl; ends = ap (λ (h : Hot). h.log.end) same ∙ end_of disk now hot.log (bodies records) (bodies []) keeps.stands },
+      stands (state_of hot.settings records) (keeps_sure disk now hot records [] records sure keeps) left refl,
+    )
+
+-- the fault that is answered
+fault_is : {D : Type 0} {disk : Ghosts D} (x y : OpenFault) (b c : D) → ◌≡◌ {A = Result (SplitCore D disk) (OpenFault × D)} (Err (x, b)) (Err (y, c)) → x ≡ y
+fault_is {D = D} x y b c same = let pair : ◌≡◌ {A = OpenFault × D} (x, b) (y, c) = cc (same) in ap (λ (p : OpenFault × D). p.0) pair
+
+-- a store that is not opened for a fault of its log
+pub not_opened : {D T : Type 0} (disk : Ghosts D) (was back : D) (f : StoreFault) (r : OpenFault) → r ≡ open_fault f → IsOpeningFault f → ((file at : ℕ) → f ≡ store_fault.Damaged file at → file ≡ 0)
+    → CountsFault {T = T} store_fault.DiskFault (disk.faults was) (disk.faults back) (Err f) → Goes disk Same was back → Opens {D = D} {disk = disk} was (Err (r, back))
+not_opened {D = D} {T = T} disk was back f r is able in_hot counts goes = subst (λ (r : OpenFault). Opens {D = D} {disk = disk} was (Err (r, back))) (sym is) (at f able in_hot counts)
+  where
+    kept : (x : StoreFault) → (x ≡ store_fault.DiskFault → ⊥) → CountsFault {T = T} store_fault.DiskFault (disk.faults was) (disk.faults back) (Err x) → disk.faults back ≡ disk.faults was
+    kept x other counts = ⊎_elim (λ (same : ◌≡◌ {A = Result T StoreFault} (Err x) (Err store_fault.DiskFault)). absurd (other (cc (same)))) (λ kept. kept) counts.kept
+
+    at : (x : StoreFault) → IsOpeningFault x → ((file at : ℕ) → x ≡ store_fault.Damaged file at → file ≡ 0) → CountsFault {T = T} store_fault.DiskFault (disk.faults was) (disk.faults back) (Err x) → Opens {D = D} {disk = disk} was (Err (open_fault x, back))
+    at store_fault.NoMemory able in_hot counts = record { fits = tt; errors = λ y c same. subst IsOpenFault (fault_is opening.NoMemory y back c same) tt; counts = kept store_fault.NoMemory (λ wrong. let differ : ⊥ = cc (wrong) in differ) counts; goes = goes }
+    at store_fault.DiskFault able in_hot counts = record { fits = tt; errors = λ y c same. subst IsOpenFault (fault_is opening.DiskFault y back c same) tt; counts = counts.rose refl; goes = goes }
+    at (store_fault.Damaged file place) able in_hot counts = record {
+      fits = tt;
+      errors = λ y c same. subst IsOpenFault (fault_is (opening.Damaged file place) y back c same) (in_hot file place refl);
+      counts = kept (store_fault.Damaged file place) (λ wrong. let differ : ⊥ = cc (wrong) in differ) counts;
+      goes = goes;
+    }
+    at (store_fault.LogFull file need room) able in_hot counts = absurd able
+
+-- ---- a file has a state or is damaged
+
+module _ (file : List ℕ) where
+  pub state_or_damaged : (settings : Settings) → ((i : ℕ) → slice_index file i < 256) → HasSettings file settings → ((s : State) × (end : ℕ) × HasState file end s) ⊎ ((at : ℕ) × IsDamagedStore file at)
+  state_or_damaged settings small committed = ⊎_elim
+      (λ found. by_rows found.0 found.1 (cases_lt settings.rows (finite_map.len (hot_blocks found.0))))
+      (λ damaged. inr (damaged.0, inl damaged.1))
+      (each_reading file settings small committed)
+    where
+      by_rows : (records : List Record) → IsHalf file settings records → (settings.rows < finite_map.len (hot_blocks records)) ⊎ (finite_map.len (hot_blocks records) ≤ settings.rows) → ((s : State) × (end : ℕ) × HasState file end s) ⊎ ((at : ℕ) × IsDamagedStore file at)
+      by_rows records half (inr few) = inl (
+        state_of settings records,
+        length (spelled (bodies records)),
+        record { settings = settings; records = records; half = half; state = left_so settings records few; closed = refl; ends = refl },
+      )
+      by_rows records half (inl many) = inr (14, inr ((settings, records, half, many), refl))
+
+  -- two halves have the same records, and the settings of their store
+  crowded : (s : State) (end : ℕ) → HasTooMany file → HasState file end s → ⊥
+  crowded s end many has = omega (
+    arith,
+    many.3,
+    has.state.rows,
+    ap (λ kept. finite_map.len kept) has.state.kept,
+    ap (λ (c : Settings). c.rows) has.state.config,
+    ap (λ (c : Settings). c.rows) (settings_once file many.0 has.settings many.2.committed has.half.committed),
+    ap (λ (rs : List Record). finite_map.len (hot_blocks rs)) (records_once file many.0 has.settings many.1 has.records many.2 has.half),
+  )
+
+  pub stands_apart : (at end : ℕ) (s : State) → IsDamagedStore file at → HasState file end s → ⊥
+  stands_apart at end s (inl damaged) has = apart file at has.settings has.records damaged has.half
+  stands_apart at end s (inr many) has = crowded s end many.0 has
+
+  pub one_offset : (at at' : ℕ) → IsDamagedStore file at → IsDamagedStore file at' → at ≡ at'
+  one_offset at at' (inl a) (inl b) = place_once file at at' a b
+  one_offset at at' (inl a) (inr b) = absurd (apart file at b.0.0 b.0.1 a b.0.2)
+  one_offset at at' (inr a) (inl b) = absurd (apart file at' a.0.0 a.0.1 b a.0.2)
+  one_offset at at' (inr a) (inr b) = a.1 ∙ sym b.1
+
+-- ---- a new store
+
+-- its records leave the state in which nothing is kept
+pub none_left : (settings : Settings) → IsLeftBy settings (first_records settings) (empty_state settings)
+none_left settings = record {
+  config = refl;
+  kept = refl;
+  hot = λ c. contains-empty (slice_cmp nat_cmp) c ∙ sym (ap is_some (get-empty (slice_cmp nat_cmp) c));
+  head = refl;
+  base = refl;
+  rows = omega (arith, finite_map.len-empty (slice_cmp nat_cmp) (List ℕ));
+}
+
+-- which its file has
+pub made : (file : List ℕ) (settings : Settings) → IsHalf file settings (first_records settings) → (end : ℕ) × HasState file end (empty_state settings)
+made file settings half = (
+  length (spelled (bodies (first_records settings))),
+  record { settings = settings; records = first_records settings; half = half; state = none_left settings; closed = refl; ends = refl },
+)
+
+-- the fault of a log that is not full is one of a log that is read
+pub able : (f : StoreFault) → ((file need room : ℕ) → f ≡ store_fault.LogFull file need room → ⊥) → IsOpeningFault f
+able store_fault.NoMemory full = tt
+able store_fault.DiskFault full = tt
+able (store_fault.Damaged file at) full = tt
+able (store_fault.LogFull file need room) full = absurd (full file need room refl)

@@ -1,0 +1,95 @@
+-- What opening a store, and making one, come to.
+use Rattle.std.specs.Prelude.{◌≡◌, ◌⊎◌, ℕ, ◌<◌, ◌≤◌, List, [], None, Result, Ok, Err, IsTrue, IfOk}
+use Rattle.std.specs.FinMap as finite_map
+use Rattle.ss_disk.specs.declared.disk.Disk.{Ghosts}
+use Rattle.ss_disk.specs.Disk.{Files, Same, Evolves, Rose}
+use Rattle.ss_disk.specs.Calls.{Goes}
+use Rattle.ss_gatelog.specs.Log.{HasList}
+use Rattle.ss_records.specs.declared.record.Config.{Config as Settings}
+use Rattle.ss_records.specs.declared.record.Record.{Record}
+use Rattle.ss_records.specs.Record.{SettingsFit}
+use Rattle.ss_hot.specs.Half.{hot_blocks}
+use Rattle.ss_hot.specs.File.{HasSettings, IsHalf, IsDamagedHalf}
+use Rattle.ss_model.specs.State.{State, empty_state}
+use Rattle.ss_core.specs.declared.split_core.SplitCore.{SplitCore}
+use Rattle.ss_core.specs.StandsFor.{HasState, StandsFor}
+use Rattle.ss_open.specs.declared.fault.OpenFault.{OpenFault}
+use Rattle.ss_open.specs.declared.fault.OpenFault.TheVariants as opening
+
+-- no settings are committed in a file
+abbrev pub HasNoStore : List ℕ → Type 0
+HasNoStore file = (settings : Settings) → HasSettings file settings → ⊥
+
+-- the offset of the settings' gate, after the record of a generation
+abbrev pub settings_gate : ℕ
+settings_gate = 14
+
+-- more blocks are kept than the settings allow
+abbrev pub HasTooMany : List ℕ → Type 0
+HasTooMany file = (settings : Settings) × (records : List Record) × IsHalf file settings records × (settings.rows < finite_map.len (hot_blocks records))
+
+-- The file is of a store, and is damaged at this offset: at the first record at fault, or, where there is none and too many blocks
+-- are kept, at the settings.
+abbrev pub IsDamagedStore : List ℕ → ℕ → Type 0
+IsDamagedStore file at = IsDamagedHalf file at ⊎ (HasTooMany file × (at ≡ settings_gate))
+
+-- each file but that of the hot log is an empty log
+abbrev pub AreEmptyBeside : ℕ → Files → Type 0
+AreEmptyBeside limit files = (file : ℕ) → 1 ≤ file → file ≤ 5 → HasList limit (files file) []
+
+-- each image now has a store with these settings in which nothing is kept, and no other file has a record
+abbrev pub IsNewStore : {D : Type 0} → Ghosts D → D → Settings → Type 0
+IsNewStore disk now settings =
+    (left : Files) → disk.image now (disk.moment now) left → ((end : ℕ) × HasState (left 0) end (empty_state settings)) × AreEmptyBeside settings.limit left
+
+-- the disk as it comes back, in the store or beside the fault
+abbrev pub disk_of : {D : Type 0} {disk : Ghosts D} → Result (SplitCore D disk) (OpenFault × D) → D
+disk_of (Ok core) = core.disk
+disk_of (Err (fault, back)) = back
+
+-- A fault that the disk counted is answered as one, and nothing else is.
+abbrev pub CountsOpening : {D : Type 0} {disk : Ghosts D} → ℕ → ℕ → Result (SplitCore D disk) (OpenFault × D) → Type 0
+CountsOpening before now (Err (opening.DiskFault, back)) = Rose before now
+CountsOpening before now _ = now ≡ before
+
+-- Where the disk exposes its files: the store stands for the state that the file had; or the file has no store, or is damaged.
+abbrev pub Opened : {D : Type 0} (disk : Ghosts D) → D → Result (SplitCore D disk) (OpenFault × D) → Type 0
+Opened disk was (Ok core) = (s : State) × HasState (disk.files was 0) core.hot.log.end s × StandsFor core s None
+Opened disk was (Err (opening.NoStore, back)) = HasNoStore (disk.files was 0)
+Opened disk was (Err (opening.Damaged file at, back)) = (file ≡ 0) × IsDamagedStore (disk.files was 0) at
+Opened disk was (Err (opening.StoreExists, back)) = ⊥
+Opened disk was (Err _) = Unit {0}
+
+-- a fault with which a store is not opened; a damage is in file 0
+abbrev pub IsOpenFault : OpenFault → Type 0
+IsOpenFault opening.StoreExists = ⊥
+IsOpenFault (opening.Damaged file at) = file ≡ 0
+IsOpenFault _ = Unit {0}
+
+-- Over any disk: no file changes.
+pub record Opens {D : Type 0} {disk : Ghosts D} (was : D) (result : Result (SplitCore D disk) (OpenFault × D)) : Type 0 where
+  pub fits : IfOk result (λ core. SettingsFit core.hot.settings)
+  pub errors : (fault : OpenFault) (back : D) → result ≡ Err (fault, back) → IsOpenFault fault
+  pub counts : CountsOpening (disk.faults was) (disk.faults (disk_of result)) result
+  pub goes : Goes disk Same was (disk_of result)
+
+-- Where the disk exposes its files: the store that was made, or the settings of the one that is there.
+abbrev pub Made : {D : Type 0} (disk : Ghosts D) → D → Settings → Result (SplitCore D disk) (OpenFault × D) → Type 0
+Made disk was settings (Ok core) = HasNoStore (disk.files was 0) × StandsFor core (empty_state settings) None × IsNewStore disk core.disk settings
+Made disk was settings (Err (opening.StoreExists, back)) = (committed : Settings) × HasSettings (disk.files was 0) committed
+Made disk was settings (Err _) = Unit {0}
+
+-- a fault with which a store is not made
+abbrev pub IsInitFault : OpenFault → Type 0
+IsInitFault opening.NoStore = ⊥
+IsInitFault (opening.Damaged file at) = ⊥
+IsInitFault _ = Unit {0}
+
+-- Where a store is, or memory is missing, no file changes. Each image since the start has the hot log's file as an image then had
+-- it, or all other files are empty logs.
+pub record Inits {D : Type 0} {disk : Ghosts D} (was : D) (settings : Settings) (result : Result (SplitCore D disk) (OpenFault × D)) : Type 0 where
+  pub errors : (fault : OpenFault) (back : D) → result ≡ Err (fault, back) → IsInitFault fault
+  pub counts : CountsOpening (disk.faults was) (disk.faults (disk_of result)) result
+  pub kept : IsTrue disk.told → HasNoStore (disk.files was 0) ⊎ Goes disk Same was (disk_of result)
+  pub memory : (back : D) → result ≡ Err (opening.NoMemory, back) → Goes disk Same was back
+  pub stops : IsTrue disk.told → Evolves (disk.moment was) (disk.image was) (disk.moment (disk_of result)) (disk.image (disk_of result)) (λ old new. (new 0 ≡ old 0) ⊎ AreEmptyBeside settings.limit new)

@@ -1,0 +1,7 @@
+mod Appended
+pub mod Faults
+pub mod Maps
+pub mod Pairs
+pub mod Placing
+pub mod Puts
+pub mod TreeMap

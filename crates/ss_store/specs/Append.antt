@@ -1,0 +1,35 @@
+-- What the append of a record does to a log and its disk.
+use Rattle.std.specs.Prelude.{◌≡◌, ◌⊎◌, ℕ, ◌+◌, ◌-◌, ◌<◌, ◌≤◌, List, [], ◌∷◌, ◌++◌, map, Result, Err, IsOk, OnOk, OnErr}
+use Rattle.ss_disk.specs.declared.disk.Disk.{Ghosts}
+use Rattle.ss_disk.specs.Calls.{Touches, Leaves}
+use Rattle.ss_gatelog.specs.Faults.{CountsFault}
+use Rattle.ss_gatelog.specs.GateLog.{Log, IsSure, Stands, HasEither}
+use Rattle.ss_records.specs.declared.record.Record.{Record}
+use Rattle.ss_records.specs.Record.{spelling}
+use Rattle.ss_store.specs.declared.fault.StoreFault.{StoreFault}
+use Rattle.ss_store.specs.declared.fault.StoreFault.TheVariants.{NoMemory, DiskFault, LogFull, Damaged}
+
+-- the bodies that spell these records
+abbrev pub bodies : List Record → List (List ℕ)
+bodies records = map spelling records
+
+-- Where the disk exposes its files and the log was sure, with these records: it has one more after `Ok`; after a fault
+-- perhaps; and each image since has the one list or the other.
+pub record KeepsAppended {D : Type 0} (disk : Ghosts D) (was now : D) (old new : Log) (records : List Record) (r : Record) (result : Result (Unit {0}) StoreFault) : Type 0 where
+  pub appended : OnOk result (IsSure disk now new (bodies (records ++ r ∷ [])))
+  pub failed : OnErr result (Stands disk now new (bodies records) (bodies (records ++ r ∷ [])))
+  pub stops : Leaves disk old.file (HasEither old.limit (bodies records) (bodies (records ++ r ∷ []))) was now
+
+-- Over any disk, where the record takes `need` bytes of the log: it is appended, or does not fit and all stays as it was, or
+-- the count of faults rose and the log may be in doubt.
+pub record Appends {D : Type 0} (disk : Ghosts D) (was now : D) (old new : Log) (need : ℕ) (result : Result (Unit {0}) StoreFault) : Type 0 where
+  pub ok : OnOk result (new ≡ record old { end = old.end + need })
+  pub err : OnErr result (new ≡ record old { unsure = new.unsure })
+  pub untouched : (e : StoreFault) → result ≡ Err e → (e ≡ DiskFault) ⊎ ((new ≡ old) × (now ≡ was))
+  pub full : (file wants room : ℕ) → result ≡ Err (LogFull file wants room) → (file ≡ old.file) × (wants ≡ need) × (room ≡ old.limit - 1 - old.end) × (room < need)
+  pub roomy : IsOk result ⊎ (result ≡ Err DiskFault) → need ≤ old.limit - 1 - old.end
+  pub not_damaged : (file at : ℕ) → result ≡ Err (Damaged file at) → ⊥
+  pub has_memory : result ≡ Err NoMemory → ⊥
+  pub counts : CountsFault DiskFault (disk.faults was) (disk.faults now) result
+  pub known : new.end + 1 ≤ disk.known now new.file
+  pub touches : Touches disk old.file was now

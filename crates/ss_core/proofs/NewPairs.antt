@@ -1,23 +1,23 @@
 -- The new pairs of a parcel, found one after another and told by their places.
-use Rattle.std.proofs.Common.{◌≡◌, ℕ, zero, suc, ◌+◌, ◌<◌, ◌≤◌, Bool, true, false, true≢false, cond, List, [], ◌∷◌, ◌++◌, length, drop, Some, refl, sym, ap, ◌∙◌, append_assoc, arith}
-use Rattle.std.specs.Prelude.{◌==◌, ◌||◌, not, map, is_some, slice_get, All}
+use Rattle.std.proofs.Common.{◌≡◌, ℕ, zero, suc, ◌+◌, ◌≤◌, Bool, true, false, true≢false, cond, List, [], ◌∷◌, ◌++◌, length, drop, get_or, Option, None, Some, Bor, refl, sym, ap, ◌∙◌, append_assoc, arith}
+use Rattle.std.specs.Prelude.{◌==◌, ◌||◌, not, map, is_some, slice_get}
 use Rattle.std.specs.Ordering.{nat_cmp, eq_by_cmp}
 use Rattle.std.specs.Cmp.{eq_by_cmp_equiv}
 use Rattle.std.specs.Cmp.Lexicographic.{slice_cmp, nat_list_cmp_total}
 use Rattle.std.specs.BTreeSet.{BTreeSet, contains}
+use Rattle.std.specs.Option.{option_copied}
 use Rattle.std.specs.FinMap as finite_map
 use Rattle.std.specs.FinSet as finite_set
 use Rattle.std.specs.FinSet.{contains-insert}
 use Rattle.std.proofs.Math.ListN.{drop_of_length-le}
 use Rattle.std.proofs.lemmas.List.{map-append, length-map, append-nil, drop_more}
-use Rattle.std.proofs.lemmas.List.Elements.{All-nil, All-cons}
 use Rattle.std.proofs.lemmas.Option.{slice_get_within, get_or_from_slice_get}
 use Rattle.ss_cid.specs.Cid.{identity_of}
 use Rattle.ss_store.specs.Index.{CidMap}
 use Rattle.ss_store.specs.declared.place.Place.{Place}
 use Rattle.ss_model.specs.State.{CidSet}
 use Rattle.ss_model.specs.Lawful.{is_left_out, new_pairs}
-use Rattle.ss_core.specs.Fresh.{ArePairsAt, cids_of}
+use Rattle.ss_core.specs.Fresh.{AreNoted, ArePairsAt, cids_of}
 use Rattle.ss_core.proofs.Puts.{picked, fresh_few, cids_known}
 
 -- where as many are new as there are, all are
@@ -42,15 +42,6 @@ same_pairs (x ∷ xs) (y ∷ ys) e =
 -- there are as many places as pairs
 pub as_many : (pairs : List (List ℕ × List ℕ)) (places : List ℕ) (chosen : List (List ℕ × List ℕ)) → ArePairsAt pairs places chosen → length places ≡ length chosen
 as_many pairs places chosen are = sym (length-map places (slice_get pairs)) ∙ ap length are ∙ length-map chosen Some
-
--- each place is one of the list's
-pub places_within : (pairs : List (List ℕ × List ℕ)) (places : List ℕ) (chosen : List (List ℕ × List ℕ)) → ArePairsAt pairs places chosen → All (λ i. i < length pairs) places
-places_within pairs [] chosen are = All-nil (λ i. i < length pairs)
-places_within pairs (i ∷ places) [] are = absurd cc
-places_within pairs (i ∷ places) (p ∷ chosen) are =
-    let first : slice_get pairs i ≡ Some p = cc in
-    let rest : ArePairsAt pairs places chosen = cc in
-    All-cons (λ i. i < length pairs) i places (slice_get_within pairs i p first) (places_within pairs places chosen rest)
 
 -- one place and its pair more
 pub pair_more : (pairs : List (List ℕ × List ℕ)) (places : List ℕ) (chosen : List (List ℕ × List ℕ)) (i : ℕ) (p : List ℕ × List ℕ) → slice_get pairs i ≡ Some p → ArePairsAt pairs places chosen → ArePairsAt pairs (places ++ i ∷ []) (chosen ++ p ∷ [])
@@ -90,17 +81,24 @@ unfolding is_left_out
 from_here known pairs i p a out at has left =
     ap (new_pairs known) (next_pair pairs i p at) ∙ ap (picked known p (drop (i + 1) pairs)) (ap (λ b. is_some (identity_of p.0) || b) has ∙ left)
 
-or_left : (a b m : Bool) → (a || (b || m)) ≡ ((a || b) || m)
-or_left true b m = refl
-or_left false b m = refl
+-- whether a pair is left out or was met, by what is noted of its CID
+pub told : (places : CidMap Place) (met : BTreeSet (List ℕ)) (c : List ℕ) (id kept said : Bool) → is_some (identity_of c) ≡ id → is_some (finite_map.get places c) ≡ kept → contains (slice_cmp nat_cmp) met c ≡ said
+    → (is_some (identity_of c) || (finite_set.contains (cids_of places) c || contains (slice_cmp nat_cmp) met c)) ≡ (id || (kept || said))
+told places met c id kept said a b m k = a k || ((cids_known places c ∙ b) k || m k)
 
--- what the two tests of a pair say, in the words of the index: whether it is old wherever it stands, and whether it was met
-pub told : (places : CidMap Place) (met : BTreeSet (List ℕ)) (c : List ℕ) (out old said : Bool) → out ≡ (is_some (identity_of c) || is_some (finite_map.get places c)) → out ≡ old → contains (slice_cmp nat_cmp) met c ≡ said
-    → (is_some (identity_of c) || (finite_set.contains (cids_of places) c || contains (slice_cmp nat_cmp) met c)) ≡ (old || said)
-told places met c out old said is says has =
-    ap (λ hot. is_some (identity_of c) || (hot || contains (slice_cmp nat_cmp) met c)) (cids_known places c)
-    ∙ or_left (is_some (identity_of c)) (is_some (finite_map.get places c)) (contains (slice_cmp nat_cmp) met c)
-    ∙ (λ k. (sym is ∙ says) k || has k)
+-- a kept pair is left out, whatever its CID
+pub or_true : (a : Bool) → (a || true) ≡ true
+or_true true = refl
+or_true false = refl
+
+-- what is noted of a pair
+pub noted_is : (places : CidMap Place) (pairs : List (List ℕ × List ℕ)) (noted : List Bool) (i : ℕ) (p : List ℕ × List ℕ) (d : Bool) → AreNoted places pairs noted → slice_get pairs i ≡ Some p → is_some (finite_map.get places p.0) ≡ get_or noted i d
+noted_is places pairs noted i p d are at = sym (get_or_from_slice_get noted i _ d (are i p at))
+
+-- whether a CID is an identity CID, by whether a digest was lent
+pub identity_told : (lent : Option (Bor (List ℕ))) (id : Option (List ℕ)) (b : Bool) → option_copied lent ≡ id → is_some lent ≡ b → is_some id ≡ b
+identity_told None id b is has = ap is_some (sym is) ∙ has
+identity_told (Some d) id b is has = ap is_some (sym is) ∙ has
 
 -- what was added was not there, and what was not added was
 pub was_there : (there added : Bool) → added ≡ not there → there ≡ not added

@@ -1,9 +1,17 @@
 -- The bytes of a put and of its record, one pair further.
-use Rattle.std.proofs.Common.{◌≡◌, ℕ, ◌+◌, ◌≤◌, List, length, Option, None, Some, take, min, ap, ◌∙◌, arith}
-use Rattle.std.specs.Prelude.{sum_by, slice_get, option_map}
+use Rattle.std.proofs.Common.{◌≡◌, ℕ, ◌+◌, ◌<◌, ◌≤◌, inl, inr, Bool, List, length, Option, None, Some, take, min, set, get_or, sym, ap, ◌∙◌, subst, arith}
+use Rattle.std.specs.Prelude.{sum_by, slice_get, option_map, is_some}
+use Rattle.std.specs.FinMap as finite_map
 use Rattle.std.specs.Option.{unwrap_or}
 use Rattle.std.proofs.lemmas.List.Sums.{sum_by_more, sum_by-take-le}
-use Rattle.std.proofs.lemmas.Option.{slice_get_within, get_or_from_slice_get}
+use Rattle.std.proofs.lemmas.Bool.{cases_lt}
+use Rattle.std.proofs.lemmas.Grind.{get_or-set_at}
+use Rattle.std.proofs.lemmas.List.{length-set, get_or-set_other}
+use Rattle.std.proofs.lemmas.List.Elements.{All-get_or}
+use Rattle.std.proofs.lemmas.Option.{slice_get_within, slice_get-get_or, get_or_from_slice_get}
+use Rattle.ss_store.specs.Index.{CidMap}
+use Rattle.ss_store.specs.declared.place.Place.{Place}
+use Rattle.ss_hot.specs.Store.{Hot, AreNotHot}
 use Rattle.ss_model.specs.State.{Kept}
 use Rattle.ss_model.specs.Lawful.{pair_bytes, put_bytes, written_bytes, body_bytes, length_of}
 
@@ -19,6 +27,10 @@ bytes_more kept pairs i p bytes one more top at before here is = omega (arith, s
 pub least_more : (pairs : List (List ℕ × List ℕ)) (i : ℕ) (p : List ℕ × List ℕ) (bytes one more top : ℕ) → slice_get pairs i ≡ Some p → min (body_bytes (take i pairs)) top ≤ bytes → written_bytes p ≤ one → more ≡ min (bytes + one) top → min (body_bytes (take (i + 1) pairs)) top ≤ more
 least_more pairs i p bytes one more top at before here is = omega (arith, sum_next written_bytes pairs i p at, here, before, is)
 
+-- the bytes of a put of which nothing is kept are those of a record of its pairs
+pub own_more : (pairs : List (List ℕ × List ℕ)) (i : ℕ) (p : List ℕ × List ℕ) (bytes one more top : ℕ) → slice_get pairs i ≡ Some p → bytes ≡ min (body_bytes (take i pairs)) top → one ≡ written_bytes p → more ≡ min (bytes + one) top → more ≡ min (body_bytes (take (i + 1) pairs)) top
+own_more pairs i p bytes one more top at before here is = omega (arith, sum_next written_bytes pairs i p at, here, before, is)
+
 -- the bytes of a record
 pub body_more : (pairs : List (List ℕ × List ℕ)) (i : ℕ) (p : List ℕ × List ℕ) (bytes : ℕ) → slice_get pairs i ≡ Some p → bytes ≡ body_bytes (take i pairs) → bytes + written_bytes p ≡ body_bytes (take (i + 1) pairs)
 body_more pairs i p bytes at before = omega (arith, sum_next written_bytes pairs i p at, before)
@@ -31,3 +43,28 @@ body_within pairs i p bytes at before = omega (arith, body_more pairs i p bytes 
 pub kept_is : (found : Option (List ℕ)) (told : Option ℕ) (n : ℕ) → told ≡ option_map (λ block. length block) found → n ≡ unwrap_or told 0 → n ≡ length_of found
 kept_is None told n is n_is = n_is ∙ ap (λ o. unwrap_or o 0) is
 kept_is (Some block) told n is n_is = n_is ∙ ap (λ o. unwrap_or o 0) is
+
+-- of a pair that is not hot none
+pub none_is : (hot : Hot) (pairs : List (List ℕ × List ℕ)) (i : ℕ) (p : List ℕ × List ℕ) (told : Option ℕ) (n : ℕ) → AreNotHot hot pairs → slice_get pairs i ≡ Some p → told ≡ option_map (λ place. place.len) (finite_map.get hot.places p.0) → n ≡ unwrap_or told 0 → n ≡ 0
+none_is hot pairs i p told n none at is n_is =
+    let absent : finite_map.get hot.places p.0 ≡ None = subst (λ q. finite_map.get hot.places q.0 ≡ None) (get_or_from_slice_get pairs i p p at) (All-get_or (λ q. finite_map.get hot.places q.0 ≡ None) pairs i p (slice_get_within pairs i p at) none) in
+    n_is ∙ ap (λ o. unwrap_or o 0) (is ∙ ap (option_map (λ (place : Place). place.len)) absent)
+
+-- a place is held where its length is told
+pub length_some : (found : Option Place) (told : Option ℕ) → told ≡ option_map (λ place. place.len) found → is_some told ≡ is_some found
+length_some None told is = ap is_some is
+length_some (Some place) told is = ap is_some is
+
+-- one pair more is noted
+pub noted_more : (places : CidMap Place) (pairs : List (List ℕ × List ℕ)) (noted : List Bool) (i : ℕ) (p : List ℕ × List ℕ) (b : Bool) → slice_get pairs i ≡ Some p → i < length noted → b ≡ is_some (finite_map.get places p.0)
+    → ((k : ℕ) (q : List ℕ × List ℕ) → k < i → slice_get pairs k ≡ Some q → slice_get noted k ≡ Some (is_some (finite_map.get places q.0)))
+    → (k : ℕ) (q : List ℕ × List ℕ) → k < i + 1 → slice_get pairs k ≡ Some q → slice_get (set noted i b) k ≡ Some (is_some (finite_map.get places q.0))
+noted_more places pairs noted i p b here room is before k q within at = elim (cases_lt k i) [
+  | inl less ↦
+      let was = before k q less at in
+      slice_get-get_or (set noted i b) k b (subst (λ n. k < n) (sym (length-set noted i b)) (slice_get_within noted k _ was)) ∙ ap Some (get_or-set_other noted i k b b (λ e. omega (arith, e, less)) ∙ get_or_from_slice_get noted k _ b was)
+  | inr more ↦
+      let same : k ≡ i = omega (arith, more, within) in
+      let pair : p ≡ q = sym (get_or_from_slice_get pairs i p p here) ∙ ap (λ n. get_or pairs n p) (sym same) ∙ get_or_from_slice_get pairs k q p at in
+      slice_get-get_or (set noted i b) k b (subst (λ n. k < n) (sym (length-set noted i b)) (omega (arith, same, room))) ∙ ap Some (get_or-set_at noted i k b b same room ∙ is ∙ ap (λ (r : List ℕ × List ℕ). is_some (finite_map.get places r.0)) pair)
+]

@@ -26,7 +26,8 @@ use Rattle.ss_model.proofs.Need.{record_takes}
 use Rattle.ss_core.specs.declared.split_core.SplitCore.{SplitCore}
 use Rattle.ss_core.specs.Calls.{Steps}
 use Rattle.ss_core.specs.Effect.{record_of, bytes_of, put_effect}
-use Rattle.ss_core.specs.Fresh.{cids_of}
+use Rattle.ss_core.specs.Fresh.{IsLooked, cids_of}
+use Rattle.ss_core.specs.declared.fresh.Looked.{Looked}
 use Rattle.ss_core.specs.Puts.{IsReady}
 use Rattle.ss_core.specs.StandsFor.{IsLeftBy, AreOfHalf, StandsFor, HasEitherState}
 use Rattle.ss_core.proofs.Idle.{leaves_wider, doubts_none, doubts_same, unwritten, idle, stands_anew}
@@ -45,6 +46,10 @@ new_short places pairs fresh top short is = omega (arith, fresh_short (cids_of p
 
 pub new_absent : (hot : Hot) (pairs fresh : List (List ℕ × List ℕ)) → new_pairs (cids_of hot.places) pairs ≡ fresh → AreNotHot hot fresh
 new_absent hot pairs fresh is = subst (λ ps. AreNotHot hot ps) is (fresh_absent hot.places pairs)
+
+-- where all are new, the bytes that the look told are those of their record
+pub own_body : (hot : Hot) (pairs : List (List ℕ × List ℕ)) (looked : Looked) → IsReady pairs → IsLooked hot pairs looked → new_pairs (cids_of hot.places) pairs ≡ pairs → looked.bytes ≡ body_bytes pairs
+own_body hot pairs looked ready is all = omega (arith, is.own (new_absent hot pairs pairs all), ready.short)
 
 -- a record of so many bytes fits a log's record
 pub spelled_short : (pairs : List (List ℕ × List ℕ)) (top : ℕ) → body_bytes pairs ≤ top → length (spelling (Put pairs)) ≤ top

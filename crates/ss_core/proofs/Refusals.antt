@@ -1,10 +1,9 @@
 -- A put that its state and its parcel refuse.
-use Rattle.std.proofs.Common.{ℕ, List, Option, None, Some, refl}
-use Rattle.std.specs.Prelude.{MatchOption}
+use Rattle.std.proofs.Common.{ℕ, List, Option, refl}
 use Rattle.ss_disk.specs.declared.disk.Disk.{Ghosts}
 use Rattle.ss_records.specs.declared.record.Record.{Record}
 use Rattle.ss_model.specs.State.{State}
-use Rattle.ss_model.specs.Lawful.{IsPutRefusal, IsFitting, IsFirstFault, IsPassed, AreSound}
+use Rattle.ss_model.specs.Lawful.{IsPutRefusal, IsFitting, IsFirstFault}
 use Rattle.ss_model.specs.declared.call.PutReply.{PutReply}
 use Rattle.ss_model.specs.declared.call.PutReply.TheVariants as put
 use Rattle.ss_model.specs.declared.call.Call.TheVariants as call
@@ -35,7 +34,7 @@ module _ {D : Type 0} (disk : Ghosts D) (core : SplitCore D disk) (s : State) (d
   is_refused (put.Stored new) h = absurd h.1.fault
 
 -- a faulty pair refuses a parcel that fits
-refused_by_fault : (s : State) (v : ℕ) (pairs : List (List ℕ × List ℕ)) (r : PutReply) → IsFitting s v pairs → IsFirstFault pairs r → IsPutRefusal s v pairs r
+pub refused_by_fault : (s : State) (v : ℕ) (pairs : List (List ℕ × List ℕ)) (r : PutReply) → IsFitting s v pairs → IsFirstFault pairs r → IsPutRefusal s v pairs r
 refused_by_fault s v pairs put.NoMemory fits h = absurd h.fault
 refused_by_fault s v pairs (put.Stored new) fits h = absurd h.fault
 refused_by_fault s v pairs (put.TableFull rows) fits h = absurd h.fault
@@ -48,8 +47,3 @@ refused_by_fault s v pairs (put.TooLarge i) fits h = (fits, h)
 refused_by_fault s v pairs (put.UnknownHash i) fits h = (fits, h)
 refused_by_fault s v pairs (put.Mismatch i) fits h = (fits, h)
 refused_by_fault s v pairs (put.Malformed i kind at) fits h = (fits, h)
-
--- a parcel that fits passes, or is refused by its first faulty pair
-pub decided : (s : State) (v : ℕ) (pairs : List (List ℕ × List ℕ)) (r : Option PutReply) → IsFitting s v pairs → MatchOption r (AreSound pairs) (IsFirstFault pairs) → MatchOption r (IsPassed s v pairs) (IsPutRefusal s v pairs)
-decided s v pairs None fits sound = record { fitting = fits; sound = sound }
-decided s v pairs (Some r) fits first = refused_by_fault s v pairs r fits first

@@ -1,15 +1,25 @@
 //! The blocks of a parcel that are new to a store.
 
-ghost use Rattle.std.specs.Prelude.{◌≡◌, ◌<◌, ◌||◌, length, is_some, All, IfOk};
-ghost use Rattle.std.specs.FinMap as finite_map;
-ghost use Rattle.ss_cid.specs.Cid.{identity_of};
+ghost use Rattle.std.specs.Prelude.{◌<◌, ◌≤◌, length, All, IfOk};
+ghost use Rattle.ss_store.specs.Index.{CidMap};
+ghost use Rattle.ss_store.specs.declared.place.Place.{Place};
 ghost use Rattle.ss_model.specs.Lawful.{new_pairs};
-ghost use Rattle.ss_core.specs.Fresh.{IsFresh, ArePairsAt, cids_of};
+ghost use Rattle.ss_model.specs.declared.TheConstants.{PUT_BLOCKS};
+ghost use Rattle.ss_core.specs.Fresh.{AreNoted, ArePairsAt, IsFresh, cids_of};
 
-use ss_cid::{Cid, NoMemory, Parcel};
-use ss_hot::HotStore;
+use ss_cid::{NoMemory, Parcel};
+use ss_model::PUT_BLOCKS;
 use std::alloc::Global;
 use std::collections::BTreeSet;
+
+/// What a look at each pair of a parcel tells.
+#[derive(Debug, Drop)]
+pub(crate) struct Looked {
+    /// The bytes that a put of the parcel takes, 2^64 - 1 at the most.
+    pub bytes: u64,
+    /// For each pair in order, whether its CID is kept.
+    pub kept: [bool; PUT_BLOCKS],
+}
 
 /// The new blocks of a parcel.
 #[derive(Debug, Drop)]
@@ -22,16 +32,17 @@ pub(crate) enum Fresh {
     Part(Parcel),
 }
 
-/// The blocks of a parcel whose CIDs are neither identity CIDs nor hot, each where its CID first stands. They are copied only
+/// The blocks of a parcel whose CIDs are neither identity CIDs nor kept, each where its CID first stands. They are copied only
 /// where others stand among them.
 pub(crate) fn fresh_blocks(
     alloc: Global,
-    hot: &HotStore,
     parcel: &Parcel,
+    kept: &[bool; PUT_BLOCKS],
 ) -> Result<Fresh, NoMemory>
-    ensures { IfOk result (IsFresh parcel.now (new_pairs (cids_of hot.now.places) parcel.now)) }
+    requires { length parcel.now ≤ PUT_BLOCKS }
+    ensures { (places : CidMap Place) → AreNoted places parcel.now kept.now → IfOk result (IsFresh parcel.now (new_pairs (cids_of places) parcel.now)) }
 {
-    let places = new_places(alloc, hot, parcel)?;
+    let places = new_places(alloc, parcel, kept)?;
     if places.is_empty() {
         return Ok(Fresh::Nothing);
     }
@@ -42,14 +53,20 @@ pub(crate) fn fresh_blocks(
 }
 
 // The indices of the new blocks, in order.
-fn new_places(alloc: Global, hot: &HotStore, parcel: &Parcel) -> Result<Vec<usize>, NoMemory>
-    ensures { IfOk result (λ places. ArePairsAt parcel.now places.items (new_pairs (cids_of hot.now.places) parcel.now)) }
+fn new_places(
+    alloc: Global,
+    parcel: &Parcel,
+    kept: &[bool; PUT_BLOCKS],
+) -> Result<Vec<usize>, NoMemory>
+    requires { length parcel.now ≤ PUT_BLOCKS }
+    ensures within { IfOk result (λ found. All (λ i. i < length parcel.now) found.items) }
+    ensures new { (places : CidMap Place) → AreNoted places parcel.now kept.now → IfOk result (λ found. ArePairsAt parcel.now found.items (new_pairs (cids_of places) parcel.now)) }
 {
     let mut met = BTreeSet::new(alloc);
     let mut places = Vec::new(alloc);
     for i in 0..parcel.len() {
         let (cid, _) = parcel.at(i);
-        if is_old(hot, &cid) {
+        if kept[i] || cid.identity().is_some() {
             continue;
         }
         if met.insert(cid)? {
@@ -57,13 +74,6 @@ fn new_places(alloc: Global, hot: &HotStore, parcel: &Parcel) -> Result<Vec<usiz
         }
     }
     Ok(places)
-}
-
-// Whether a block is left out wherever it stands: under an identity CID, or hot.
-fn is_old(hot: &HotStore, cid: &Cid) -> bool
-    ensures { result ≡ (is_some (identity_of cid.now) || is_some (finite_map.get hot.now.places cid.now)) }
-{
-    cid.identity().is_some() || hot.has(cid)
 }
 
 // A copy of the blocks at these indices.

@@ -130,7 +130,8 @@ impl<D: Disk> SplitCore<D> {
 
     // How many bytes are kept under a CID, None where it is not kept. What is kept is hot.
     fn kept_len(&self, cid: &Cid) -> Option<u32>
-        ensures { (s : State) (doubt : Option Record) → StandsFor self.now s doubt → result ≡ option_map (λ block. length block) (finite_map.get s.kept cid.now) }
+        ensures place { result ≡ option_map (λ place. place.len) (finite_map.get self.now.hot.places cid.now) }
+        ensures block { (s : State) (doubt : Option Record) → StandsFor self.now s doubt → result ≡ option_map (λ block. length block) (finite_map.get s.kept cid.now) }
     {
         self.hot.size(cid)
     }

@@ -3,6 +3,7 @@ ghost use Rattle.std.specs.Option.{option_map_or};
 ghost use Rattle.std.specs.List.{slice_split};
 ghost use Rattle.std.specs.Iterator.{YieldsFirstRef, item_count};
 
+use memchr::memchr;
 use std::marker::Model;
 
 /// The pieces of some bytes between separators, in order: one more than there are separators.
@@ -66,5 +67,5 @@ fn separator_at(bytes: &[u8], separator: u8) -> Option<usize>
     ensures first { result ≡ position (λ b. b == separator) bytes.now }
     ensures within { IfSome result (λ at. at < length bytes.now) }
 {
-    bytes.iter().position(|b| *b == separator)
+    memchr(separator, bytes)
 }

@@ -1,12 +1,12 @@
 //! Puts.
 
-ghost use Rattle.std.specs.Prelude.{◌≡◌, ◌-◌, ◌^◌, ◌≤◌, ℕ, List, [], min, Option, IsTrue, MatchOption};
+ghost use Rattle.std.specs.Prelude.{◌≡◌, ◌+◌, ◌-◌, ◌^◌, ◌≤◌, ℕ, List, [], length, min, max, Option, IsTrue, IfOk, MatchResult};
 ghost use Rattle.ss_records.specs.declared.record.Record.{Record};
 
 use super::{HOT, SplitCore};
 use crate::blocks::{body_bytes, first_fault};
 use crate::fault::put_fault;
-use crate::fresh::{Fresh, fresh_blocks};
+use crate::fresh::{Fresh, Looked, fresh_blocks};
 use ss_cid::{Cid, NoMemory, Parcel};
 use ss_disk::Disk;
 use ss_model::{PUT_BLOCKS, PUT_BYTES, PutReply};
@@ -17,11 +17,12 @@ impl<D: Disk> SplitCore<D> {
     ghost use Rattle.ss_records.specs.Record.{Fits};
     ghost use Rattle.ss_hot.specs.Store.{AreNotHot};
     ghost use Rattle.ss_model.specs.State.{State};
-    ghost use Rattle.ss_model.specs.Lawful.{IsPassed, IsPutRefusal, body_bytes, new_pairs, pair_bytes, put_bytes, written_bytes};
-    ghost use Rattle.ss_model.specs.declared.TheConstants.{PUT_BYTES};
+    ghost use Rattle.ss_model.specs.Lawful.{IsPassed, IsPutRefusal, body_bytes, new_pairs, put_bytes};
+    ghost use Rattle.ss_model.specs.declared.TheConstants.{PUT_BLOCKS, PUT_BYTES};
     ghost use Rattle.ss_model.specs.declared.call.Call.TheVariants as call_kind;
     ghost use Rattle.ss_model.specs.declared.call.Answer.TheVariants as answer;
     ghost use Rattle.ss_core.specs.Calls.{Steps, Makes};
+    ghost use Rattle.ss_core.specs.Fresh.{IsLooked};
     ghost use Rattle.ss_core.specs.Puts.{IsReady, IsRefusal};
     ghost use Rattle.ss_core.specs.StandsFor.{StandsFor};
 
@@ -34,13 +35,14 @@ impl<D: Disk> SplitCore<D> {
         ensures told { IsTrue D.told → (s : State) (doubt : Option Record) → StandsFor self.old s doubt → Steps self.old self.new s doubt (call_kind.Put view parcel.now) (answer.Put result) }
         ensures made { Makes self.old self.new (call_kind.Put view parcel.now) (answer.Put result) }
     {
-        if let Some(refusal) = self.put_refusal(view, parcel) {
-            return refusal;
-        }
-        match fresh_blocks(alloc, &self.hot, parcel) {
+        let looked = match self.look_or_refuse(view, parcel) {
+            Ok(looked) => looked,
+            Err(refusal) => return refusal,
+        };
+        match fresh_blocks(alloc, parcel, &looked.kept) {
             Ok(Fresh::Nothing) => self.put_nothing(),
-            Ok(Fresh::All) => self.put_fresh(alloc, parcel),
-            Ok(Fresh::Part(fresh)) => self.put_fresh(alloc, &fresh),
+            Ok(Fresh::All) => self.put_fresh(alloc, parcel, looked.bytes),
+            Ok(Fresh::Part(fresh)) => self.put_fresh(alloc, &fresh, body_bytes(&fresh)),
             Err(NoMemory) => PutReply::NoMemory,
         }
     }
@@ -56,11 +58,12 @@ impl<D: Disk> SplitCore<D> {
         }
     }
 
-    // A put of these blocks, none of which is hot.
-    fn put_fresh(&mut self, alloc: Global, fresh: &Parcel) -> PutReply
+    // A put of these blocks, none of which is hot, by a record whose body has so many bytes.
+    fn put_fresh(&mut self, alloc: Global, fresh: &Parcel, body: u64) -> PutReply
         requires blocks { Fits (record_kind.Put fresh.now) }
         requires short { body_bytes fresh.now ≤ PUT_BYTES }
         requires new { AreNotHot self.old.hot fresh.now }
+        requires body { body ≡ body_bytes fresh.now }
         ensures told { IsTrue D.told → (s : State) (doubt : Option Record) (view : ℕ) (pairs : List (List ℕ × List ℕ)) → StandsFor self.old s doubt → IsPassed s view pairs → new_pairs s.hot pairs ≡ fresh.now → Steps self.old self.new s doubt (call_kind.Put view pairs) (answer.Put result) }
         ensures made { (view : ℕ) (pairs : List (List ℕ × List ℕ)) → Makes self.old self.new (call_kind.Put view pairs) (answer.Put result) }
     {
@@ -68,7 +71,7 @@ impl<D: Disk> SplitCore<D> {
         if rows > u64::from(self.hot.config().rows) {
             return PutReply::TableFull { rows };
         }
-        let need = 5 + body_bytes(fresh);
+        let need = 5 + body;
         let room = self.hot.room();
         if need > room {
             let file = HOT;
@@ -85,44 +88,52 @@ impl<D: Disk> SplitCore<D> {
         }
     }
 
-    // The refusal of a put that the state and the parcel decide.
-    fn put_refusal(&self, view: u32, parcel: &Parcel) -> Option<PutReply>
-        ensures decides { (s : State) (doubt : Option Record) → StandsFor self.now s doubt → MatchOption result (IsPassed s view parcel.now) (IsPutRefusal s view parcel.now) }
-        ensures ready { MatchOption result (IsReady parcel.now) IsRefusal }
+    // What a look at the pairs of a parcel tells, or the refusal of its put that the state and the parcel decide.
+    fn look_or_refuse(&self, view: u32, parcel: &Parcel) -> Result<Looked, PutReply>
+        ensures decides { (s : State) (doubt : Option Record) → StandsFor self.now s doubt → MatchResult result (λ _. IsPassed s view parcel.now) (IsPutRefusal s view parcel.now) }
+        ensures ready { MatchResult result (λ _. IsReady parcel.now) IsRefusal }
+        ensures looked { IfOk result (IsLooked self.now.hot parcel.now) }
     {
         if !self.views.contains(view) {
-            return Some(PutReply::BadView);
+            return Err(PutReply::BadView);
         }
         if parcel.len() > PUT_BLOCKS {
             let n = parcel.len() as u32;
-            return Some(PutReply::TooMany { n });
+            return Err(PutReply::TooMany { n });
         }
-        let bytes = self.put_bytes(parcel);
-        if bytes > PUT_BYTES {
-            return Some(PutReply::TooBig { bytes });
+        let looked = self.look(parcel);
+        if looked.bytes > PUT_BYTES {
+            let bytes = looked.bytes;
+            return Err(PutReply::TooBig { bytes });
         }
-        first_fault(parcel)
+        match first_fault(parcel) {
+            Some(refusal) => Err(refusal),
+            None => Ok(looked),
+        }
     }
 
-    // The bytes that a put of a parcel takes, 2^64 - 1 at the most.
-    fn put_bytes(&self, parcel: &Parcel) -> u64
-        ensures least { min (body_bytes parcel.now) (2 ^ 64 - 1) ≤ result }
-        ensures all { (s : State) (doubt : Option Record) → StandsFor self.now s doubt → result ≡ min (put_bytes s.kept parcel.now) (2 ^ 64 - 1) }
+    // Looks each CID of a parcel up, once.
+    fn look(&self, parcel: &Parcel) -> Looked
+        requires { length parcel.now ≤ PUT_BLOCKS }
+        ensures least { min (body_bytes parcel.now) (2 ^ 64 - 1) ≤ result.bytes }
+        ensures all { (s : State) (doubt : Option Record) → StandsFor self.now s doubt → result.bytes ≡ min (put_bytes s.kept parcel.now) (2 ^ 64 - 1) }
+        ensures looked { IsLooked self.now.hot parcel.now result }
     {
         let mut bytes = 3u64;
+        let mut kept = [false; PUT_BLOCKS];
         for i in 0..parcel.len() {
             let (cid, block) = parcel.at(i);
-            bytes = bytes.saturating_add(self.pair_bytes(&cid, block));
+            let len = self.kept_len(&cid);
+            kept[i] = len.is_some();
+            bytes = bytes.saturating_add(pair_bytes(&cid, block, len.unwrap_or(0)));
         }
-        bytes
+        Looked { bytes, kept }
     }
+}
 
-    // The bytes that a pair takes of a put.
-    fn pair_bytes(&self, cid: &Cid, block: &[u8]) -> u64
-        ensures least { written_bytes (cid.now, block.now) ≤ result }
-        ensures all { (s : State) (doubt : Option Record) → StandsFor self.now s doubt → result ≡ pair_bytes s.kept (cid.now, block.now) }
-    {
-        let kept = self.kept_len(cid).unwrap_or(0);
-        cid.as_bytes().len() as u64 + 4 + block.len().max(kept as usize) as u64
-    }
+// The bytes that a pair takes of a put, where so many are kept under its CID.
+fn pair_bytes(cid: &Cid, block: &[u8], kept: u32) -> u64
+    ensures { result ≡ length cid.now + 4 + max (length block.now) kept }
+{
+    cid.as_bytes().len() as u64 + 4 + block.len().max(kept as usize) as u64
 }

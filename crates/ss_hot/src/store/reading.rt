@@ -57,7 +57,8 @@ impl HotStore {
 
     /// How many bytes a hot block has.
     pub fn size(&self, cid: &Cid) -> Option<u32>
-        ensures { (records : List Record) → Tells self.now records → result ≡ option_map (λ block. length block) (finite_map.get (hot_blocks records) cid.now) }
+        ensures value { result ≡ option_map (λ place. place.len) (finite_map.get self.now.places cid.now) }
+        ensures block { (records : List Record) → Tells self.now records → result ≡ option_map (λ block. length block) (finite_map.get (hot_blocks records) cid.now) }
     {
         let place = self.index.get(cid)?;
         Some(place.len)

@@ -25,7 +25,7 @@ pub returns-then-need-room-clause-told : goal.returns-then-need-room-clause-told
 returns-then-need-room-clause-told g c = λ told s doubt view pairs stands passed is.
     log_is_full g.D.Disk s doubt view pairs c.args.fresh.now passed is c.args.self.now stands _ _ _ c.requires.blocks.0.0
     (omega (arith, c.if-rows-from.false, c.from.ensures, ap (λ (c : Settings). c.rows) c.config.ensures, c.kept_count.ensures.count, c.len.ensures.value))
-    refl (omega (arith, c.body_bytes-need.ensures)) (omega (arith, c.if-need-room.true))
+    refl (omega (arith, c.requires.body)) (omega (arith, c.if-need-room.true))
 
 pub returns-in-Err-clause-told : goal.returns-in-Err-clause-told
 returns-in-Err-clause-told g c = λ told s doubt view pairs stands passed is.
@@ -34,7 +34,7 @@ returns-in-Err-clause-told g c = λ told s doubt view pairs stands passed is.
     subst (λ (r : PutReply). Steps c.args.self.now c.settle.new.self s doubt (call.Put view pairs) (answer.Put r)) (sym reply)
     (not_settled g.D.Disk s doubt view pairs c.args.fresh.now passed is c.args.self.now c.settle.new.self stands c.settle.ensures.same settled.stops
     (omega (arith, c.if-rows-from.false, c.from.ensures, ap (λ (c : Settings). c.rows) c.config.ensures, c.kept_count.ensures.count, c.len.ensures.value))
-    (need_short c.args.fresh.now _ c.requires.blocks.0.0 (omega (arith, c.if-need-room.false, c.body_bytes-need.ensures, c.room-room.ensures.room))) settled.after)
+    (need_short c.args.fresh.now _ c.requires.blocks.0.0 (omega (arith, c.if-need-room.false, c.requires.body, c.room-room.ensures.room))) settled.after)
 
 pub returns-in-Err-clause-made : goal.returns-in-Err-clause-made
 returns-in-Err-clause-made g c = λ view pairs.
@@ -51,7 +51,7 @@ put_fault-requires-in-Err-put_batch g c =
     let e = c.in-Err-put_batch in
     is_stop e.fault
     (λ file need room is. let full = e.ensures.written.full file need room (ap Err is) in
-    has_room c.args.self.now.hot c.settle.new.self.hot c.args.fresh.now need room c.settle.ensures.same (omega (arith, c.if-need-room.false, c.body_bytes-need.ensures, c.room-room.ensures.room)) full.1 full.2 full.3)
+    has_room c.args.self.now.hot c.settle.new.self.hot c.args.fresh.now need room c.settle.ensures.same (omega (arith, c.if-need-room.false, c.requires.body, c.room-room.ensures.room)) full.1 full.2 full.3)
     (λ file at is. e.ensures.written.not_damaged file at (ap Err is))
 
 pub returns-in-Ok-clause-told : goal.returns-in-Ok-clause-told
@@ -59,7 +59,7 @@ returns-in-Ok-clause-told g c = λ told s doubt view pairs stands passed is.
     let settled = c.in_default.ensures.told told s doubt stands in
     is_stored g.D.Disk s doubt view pairs c.args.fresh.now passed is c.args.self.now c.settle.new.self _ stands c.requires.blocks c.len.ensures.cids
     (omega (arith, c.if-rows-from.false, c.from.ensures, ap (λ (c : Settings). c.rows) c.config.ensures, c.kept_count.ensures.count, c.len.ensures.value))
-    (omega (arith, c.if-need-room.false, c.body_bytes-need.ensures, c.room-room.ensures.room)) c.settle.ensures.same settled.stops settled.after
+    (omega (arith, c.if-need-room.false, c.requires.body, c.room-room.ensures.room)) c.settle.ensures.same settled.stops settled.after
     c.put_batch.ensures.written.settings refl (λ records keeps. (c.put_batch.ensures.told records told keeps).stops)
     _ c.len-in-Ok.ensures.value c.in-Ok.ensures.written.end c.in-Ok.ensures.written.sure (λ records keeps. (c.in-Ok.ensures.told records told keeps).kept)
 
@@ -77,7 +77,7 @@ returns-in-Err-put_batch-clause-told g c = λ told s doubt view pairs stands pas
     put_steps e.fault c.put_fault-in-Err-put_batch.ensures
     (is_stop e.fault
     (λ file need room is. let full = e.ensures.written.full file need room (ap Err is) in
-    has_room c.args.self.now.hot c.settle.new.self.hot c.args.fresh.now need room c.settle.ensures.same (omega (arith, c.if-need-room.false, c.body_bytes-need.ensures, c.room-room.ensures.room)) full.1 full.2 full.3)
+    has_room c.args.self.now.hot c.settle.new.self.hot c.args.fresh.now need room c.settle.ensures.same (omega (arith, c.if-need-room.false, c.requires.body, c.room-room.ensures.room)) full.1 full.2 full.3)
     (λ file at is. e.ensures.written.not_damaged file at (ap Err is)))
     (λ wanting. let same = unless_disk e.fault _ wanting (e.ensures.written.untouched e.fault refl) in
     no_more_memory g.D.Disk s doubt view pairs c.args.fresh.now passed is c.args.self.now _ stands (subst (λ (h : Hot). SameButDoubt c.args.self.now.hot h) (sym same.0) c.settle.ensures.same)
@@ -85,7 +85,7 @@ returns-in-Err-put_batch-clause-told g c = λ told s doubt view pairs stands pas
     (stands_still g.D.Disk c.settle.new.self _ s None same.1 same.0 settled.after refl))
     (λ failed. is_doubted g.D.Disk s doubt view pairs c.args.fresh.now passed is c.args.self.now c.settle.new.self _ stands c.requires.blocks c.len.ensures.cids
     (omega (arith, c.if-rows-from.false, c.from.ensures, ap (λ (c : Settings). c.rows) c.config.ensures, c.kept_count.ensures.count, c.len.ensures.value))
-    (omega (arith, c.if-need-room.false, c.body_bytes-need.ensures, c.room-room.ensures.room)) c.settle.ensures.same settled.stops settled.after c.put_batch.ensures.written.settings refl (λ records keeps. (c.put_batch.ensures.told records told keeps).stops) e.ensures.written.err (λ records keeps. (e.ensures.told records told keeps).failed))
+    (omega (arith, c.if-need-room.false, c.requires.body, c.room-room.ensures.room)) c.settle.ensures.same settled.stops settled.after c.put_batch.ensures.written.settings refl (λ records keeps. (c.put_batch.ensures.told records told keeps).stops) e.ensures.written.err (λ records keeps. (e.ensures.told records told keeps).failed))
 
 pub returns-in-Err-put_batch-clause-made : goal.returns-in-Err-put_batch-clause-made
 returns-in-Err-put_batch-clause-made g c = λ view pairs.
@@ -97,7 +97,7 @@ returns-in-Err-put_batch-clause-made g c = λ view pairs.
     put_makes e.fault c.put_fault-in-Err-put_batch.ensures
     (is_stop e.fault
     (λ file' need room is. let full = e.ensures.written.full file' need room (ap Err is) in
-    has_room c.args.self.now.hot c.settle.new.self.hot c.args.fresh.now need room c.settle.ensures.same (omega (arith, c.if-need-room.false, c.body_bytes-need.ensures, c.room-room.ensures.room)) full.1 full.2 full.3)
+    has_room c.args.self.now.hot c.settle.new.self.hot c.args.fresh.now need room c.settle.ensures.same (omega (arith, c.if-need-room.false, c.requires.body, c.room-room.ensures.room)) full.1 full.2 full.3)
     (λ file' at is. e.ensures.written.not_damaged file' at (ap Err is)))
     (λ wanting. let same = unless_disk e.fault _ wanting (e.ensures.written.untouched e.fault refl) in
     put_wanting g.D.Disk c.args.self.now _ settings (c.put_batch.ensures.written.file ∙ file) touches view pairs (ap g.D.Disk.faults same.1 ∙ settled) (λ sure. same.1 ∙ (c.settle.ensures.sure sure).2))

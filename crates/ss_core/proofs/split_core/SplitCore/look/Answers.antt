@@ -1,0 +1,43 @@
+use Rattle.std.proofs.Common.{◌≡◌, ℕ, ◌-◌, ◌^◌, List, false, take, ◌∙◌, arith}
+use Rattle.std.proofs.lemmas.List.{take_all, length-set, length-replicate}
+use Rattle.std.proofs.lemmas.Option.{slice_get_within}
+use Rattle.ss_core.proofs.PutBytes.{bytes_more, least_more, own_more, kept_is, none_is, length_some, noted_more}
+use Rattle.ss_core.proofs.split_core.SplitCore.look.Goals as goal
+
+pub loop-i-init : goal.loop-i-init
+loop-i-init g c = record {
+  least = omega arith;
+  all = λ s doubt stands. omega arith;
+  own = λ none. omega arith;
+  room = length-replicate 1024 false;
+  noted = λ k p before at. absurd (omega (arith, before));
+}
+
+pub loop-i-preserved : goal.loop-i-preserved
+loop-i-preserved g c =
+    let pair : List ℕ × List ℕ = (c.at-cid.result.0, c.at-cid.result.1.now) in record {
+      least = least_more c.args.parcel.now c.loop-i.i pair c.loop-i.bytes c.pair_bytes.result c.saturating_add-bytes.result (2 ^ 64 - 1) c.at-cid.ensures c.loop-i.invariant.least (omega (arith, c.pair_bytes.ensures)) c.saturating_add-bytes.ensures;
+      all = λ s doubt stands. bytes_more s.kept c.args.parcel.now c.loop-i.i pair c.loop-i.bytes c.pair_bytes.result c.saturating_add-bytes.result (2 ^ 64 - 1) c.at-cid.ensures (c.loop-i.invariant.all s doubt stands)
+          (omega (arith, c.pair_bytes.ensures, kept_is _ _ c.unwrap_or.result (c.kept_len-len.ensures.block s doubt stands) c.unwrap_or.ensures)) c.saturating_add-bytes.ensures;
+      own = λ none. own_more c.args.parcel.now c.loop-i.i pair c.loop-i.bytes c.pair_bytes.result c.saturating_add-bytes.result (2 ^ 64 - 1) c.at-cid.ensures (c.loop-i.invariant.own none)
+          (omega (arith, c.pair_bytes.ensures, none_is c.args.self.now.hot c.args.parcel.now c.loop-i.i pair _ c.unwrap_or.result none c.at-cid.ensures c.kept_len-len.ensures.place c.unwrap_or.ensures)) c.saturating_add-bytes.ensures;
+      room = length-set c.loop-i.kept c.loop-i.i c.is_some.result ∙ c.loop-i.invariant.room;
+      noted = noted_more c.args.self.now.hot.places c.args.parcel.now c.loop-i.kept c.loop-i.i pair c.is_some.result c.at-cid.ensures (omega (arith, c.requires, c.loop-i.invariant.room, c.loop-i-test.true, c.len-i-end.ensures.value)) (c.is_some.ensures ∙ length_some _ _ c.kept_len-len.ensures.place) c.loop-i.invariant.noted;
+    }
+
+pub returns-clause-least : goal.returns-clause-least
+returns-clause-least g c =
+    let whole : take c.loop-i.i c.args.parcel.now ≡ c.args.parcel.now = take_all c.loop-i.i c.args.parcel.now (omega arith) in
+    rw whole at c.loop-i.invariant.least
+
+pub returns-clause-all : goal.returns-clause-all
+returns-clause-all g c = λ s doubt stands.
+    let whole : take c.loop-i.i c.args.parcel.now ≡ c.args.parcel.now = take_all c.loop-i.i c.args.parcel.now (omega arith) in
+    rw whole at (c.loop-i.invariant.all s doubt stands)
+
+pub returns-clause-looked : goal.returns-clause-looked
+returns-clause-looked g c =
+    let whole : take c.loop-i.i c.args.parcel.now ≡ c.args.parcel.now = take_all c.loop-i.i c.args.parcel.now (omega arith) in record {
+      own = λ none. rw whole at (c.loop-i.invariant.own none);
+      noted = λ k p at. c.loop-i.invariant.noted k p (omega (arith, slice_get_within c.args.parcel.now k p at, c.loop-i-test.false, c.len-i-end.ensures.value)) at;
+    }

@@ -9,4 +9,5 @@ pub mod Fronts
 pub mod LinkArrays
 pub mod Headers
 pub mod Few
+pub mod Shorter
 pub mod Followed

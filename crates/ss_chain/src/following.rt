@@ -1,5 +1,5 @@
 //! Which links of a block are followed.
-ghost use Rattle.std.specs.Prelude.{◌≡◌, ◌≤◌, length};
+ghost use Rattle.std.specs.Prelude.{◌≡◌, ◌<◌, ◌≤◌, length, All};
 ghost use Rattle.ss_chain.specs.Follows.{followed};
 
 use crate::{Follows, header, links};
@@ -15,6 +15,7 @@ use ss_cid::Cid;
 pub fn follows<'a>(edge: u64, cid: &Cid, block: &'a [u8]) -> Follows<'a>
     ensures value { result ≡ followed edge cid.now block.now }
     ensures few { length result ≤ length block.now }
+    ensures shorter { All (λ link. length link < length block.now) result }
 {
     match header(cid, block) {
         Some(header) => Follows::of_header(edge, &header),

@@ -1,0 +1,11 @@
+pub mod Paths
+pub mod Shading
+pub mod Protections
+pub mod Marking
+pub mod Following
+pub mod Blackening
+pub mod Scanning
+pub mod Quiet
+pub mod Storing
+pub mod Cases
+pub mod Rowed

@@ -1,0 +1,4 @@
+pub mod Protected
+pub mod Marked
+pub mod Changes
+pub mod Unread

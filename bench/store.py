@@ -20,6 +20,8 @@ HERE = os.path.dirname(os.path.abspath(__file__))
 
 PUT, KEPT = 15_000, (15_000, 100_000)
 BATCHES = (1, 256)
+# the most lines of a script are 100,000, and an `open` and a bad line stand beside those that are measured
+LINES_ASKED = 99_998
 LENGTHS = (8, 792)
 
 MOST_OVER_PLAIN, MOST_OVER_LMDB = 1.3, 2
@@ -206,7 +208,7 @@ def filled(folder, peers, blocks):
 
 
 def gets(folder, peers, blocks, store, stores):
-    order = random.Random(2).sample(blocks, len(blocks))
+    order = random.Random(2).sample(blocks, min(len(blocks), LINES_ASKED))
     path = script(os.path.join(folder, "gets"), [f"0 get 0 {cid.hex()}\n" for cid, _ in order])
     found = [b"found " + data.hex().encode("ascii") for _, data in order]
     see(path, store, found)
@@ -223,7 +225,7 @@ def gets(folder, peers, blocks, store, stores):
             times[place] = min(times[place], seconds(*command))
         for name, program in peers.items():
             others[name] = min(others[name], told(program, "get", stores[name], file))
-    tell(f"{len(blocks):,} gets in random order", times, others, {"LMDB": MOST_OVER_LMDB})
+    tell(f"{len(order):,} gets in random order, of {len(blocks):,} blocks", times, others, {"LMDB": MOST_OVER_LMDB})
 
 
 def memory_of(store, folder):

@@ -45,7 +45,7 @@ def expect_stored(what, store, script, out):
 @check("each allocation of the examples failing in turn: the run ends with a status and its line, and what was stored is found", True)
 def examples_without_memory(trial):
     count = 0
-    for name in ("first", "twice", "links"):
+    for name in ("first", "twice", "links", "chain"):
         store = new_store(trial, name)
         for each in AFTER.get(name, []):
             store.trace(read(f"examples/{each}.script"))

@@ -4,9 +4,13 @@ import errno
 from checking import check, expect, expect_that
 from failures import reason
 from formats import random_block
+from headers import header_block
 from interposed import ONE_BYTE, on, run
-from model import Call, Model
-from stores import HOT, Ended, answers, copied, found, get_line, new_store, put_line, script_of
+from model import Call, Head, Model
+from stores import HOT, Ended, answers, copied, found, get_line, head_line, new_store, put_line, script_of
+
+# The heights of the heads that are set.
+HEIGHTS = (1, 30)
 
 STREAMS = {"stdin": "standard input", "stdout": "standard output"}
 
@@ -71,24 +75,27 @@ def failed_input(trial):
 
 
 def keep_answers(what, model, calls, got):
-    """Expects that each answer is the model's or `fault`, which keeps nothing, and gives the new blocks of the failed puts."""
-    lost = {}
+    """Expects that each answer is the model's or `fault`, which keeps nothing, and gives what the records of failed calls add."""
+    lost = []
     for call, answer in zip(calls, got):
         wanted, new = model.answer(call)
         expect_that(answer in (wanted, "fault"), f"{what}: {call.name} is answered {answer[:80]}, and not {wanted[:80]}")
         if answer == "fault":
-            lost.update(new)
+            lost.append(new)
         else:
             model.keep(new)
     return lost
 
 
-def puts_and_gets(blocks):
-    """Calls that put each block and get it, and their script."""
+def puts_gets_and_heads(blocks, headers):
+    """Calls that put each block and get it, and that set each header as head, and their script."""
     calls, lines = [Call(0, "open")], []
-    for each in blocks:
+    for each in [*blocks, *headers]:
         calls += [Call(0, "put", 0, ((each.cid, each.data),)), Call(0, "get", 0, cid=each.cid)]
         lines += [put_line(each), get_line(each)]
+    for each in headers:
+        calls += [Call(0, "head", cids=(each.cid,)), Call(0, "info")]
+        lines += [head_line(each), "0 info\n"]
     return calls, script_of(*lines)
 
 
@@ -96,7 +103,8 @@ def puts_and_gets(blocks):
 def each_call_failing(trial):
     store = filled(trial)
     new = [random_block(trial.random, length) for length in (40, 3000, 90_000)]
-    calls, script = puts_and_gets([*new, store.blocks[1]])
+    headers = [header_block(height) for height in HEIGHTS]
+    calls, script = puts_gets_and_heads([*new, store.blocks[1]], headers)
     _, calm = run(trial, copied(trial, store).folder, "trace", script=script)
     # the last line that is written down is of the allocations
     for number in range(1, len(calm)):
@@ -109,10 +117,15 @@ def each_call_failing(trial):
         is_said = ended.err.startswith(f"splitstore: {name}: ".encode("ascii")) and ended.err.count(b"\n") == 1
         expect_that(is_said, f"{what}: standard error is {ended.err!r}")
         lost = keep_answers(what, model, calls, answers(ended.out))
-        copy.blocks = [each for each in [*store.blocks, *new] if each.cid in model.kept]
+        copy.blocks = [each for each in [*store.blocks, *new, *headers] if each.cid in model.kept]
         copy.expect_found(f"after {what}")
-        for each in new:
-            if each.cid in lost:
+        for each in [*new, *headers]:
+            if any(each.cid in record for record in lost if not isinstance(record, Head)):
                 answer = copy.answers_to(get_line(each))[0]
                 expect_that(answer in ("not-found", found(each)), f"after {what}: a get of a failed put's block is answered {answer[:80]}")
+        heads = [model.head, *(record for record in lost if isinstance(record, Head))]
+        # a call whose answer is not printed may have set the head too
+        heads += [Head(height, ()) for height in HEIGHTS if len(answers(ended.out)) < len(calls)]
+        height = copy.answers_to("0 info\n")[0].split()[2]
+        expect_that(height in [str(head.height) if head else "-" for head in heads], f"after {what}: the head has the height {height}")
     return f"{number} calls"

@@ -1,13 +1,14 @@
-"""Runs that are killed at random moments, after which everything that was answered `stored` is found."""
+"""Runs that are killed at random moments, after which everything that was answered `stored` is found, and the head is there."""
 import itertools
 import os
 import signal
 import time
 
 from checking import Missed, check, expect, expect_that
-from formats import random_block
-from stores import (EXISTS, FILES, INIT, MADE, SECONDS, Store, answers, found, get_line, new_folder, new_store, put_line, script_of,
-                    written)
+from formats import IDENTITY, random_block
+from headers import header_block
+from stores import (EXISTS, FILES, INIT, MADE, SECONDS, Store, answers, found, get_line, head_line, new_folder, new_store, put_line,
+                    script_of, written)
 
 KILLS, LONG_KILLS = 50, 1000
 
@@ -18,21 +19,34 @@ PUTS = 60
 LARGE = 40_000
 
 
+def counted(word, printed):
+    """How many of the answers begin so."""
+    return sum(each.startswith(word) for each in printed)
+
+
 class Puts:
-    """A script of puts of new blocks, with a get that prints much after each of them."""
+    """A script of puts of new blocks, with a head and a get that prints much after each of them."""
 
     def __init__(self, source, large):
         self.batches = [[random_block(source, source.randint(16, 3000)) for _ in range(source.randint(1, 3))] for _ in range(PUTS)]
         self.blocks = [each for batch in self.batches for each in batch]
-        self.script = script_of(*(line for batch in self.batches for line in (put_line(*batch), get_line(large))))
-        self.wanted = ["opened 0"]
-        for batch in self.batches:
-            self.wanted += [f"stored {len(batch)}", found(large)]
+        # the headers stand in identity CIDs; two runs have no height in common
+        self.heights = source.sample(range(1 << 40), PUTS)
+        lines, self.wanted = [], ["opened 0"]
+        for batch, height in zip(self.batches, self.heights):
+            lines += [put_line(*batch), head_line(header_block(height, code=IDENTITY)), get_line(large)]
+            self.wanted += [f"stored {len(batch)}", f"head {height}", found(large)]
+        self.script = script_of(*lines)
 
     def stored(self, printed):
         """The blocks of the puts whose answers were printed."""
         expect("the answers before a kill", printed, self.wanted[:len(printed)])
-        return [each for batch in self.batches[:len(printed) // 2] for each in batch]
+        return [each for batch in self.batches[:counted("stored ", printed)] for each in batch]
+
+    def heads(self, printed):
+        """The heights that the head may have, if one was printed; else none."""
+        count = counted("head ", printed)
+        return self.heights[count - 1:] if count else []
 
 
 def killed(trial, store, script, printed, pause):
@@ -62,6 +76,10 @@ def kill_once(trial, store, large, size, seconds):
     store.expect_found("after a kill")
     for each, answer in zip(puts.blocks, store.answers_to(*map(get_line, puts.blocks))):
         expect_that(answer in ("not-found", found(each)), f"a block of a run that was killed is answered {answer[:80]}")
+    heads = puts.heads(answered)
+    if heads:
+        height = int(store.answers_to("0 info\n")[0].split()[2])
+        expect_that(height in heads, f"the head has the height {height} after a run that was killed")
     if not is_killed:
         raise Missed("the run had ended before the kill")
     if not stored:
@@ -69,7 +87,7 @@ def kill_once(trial, store, large, size, seconds):
     return len(stored)
 
 
-@check("whatever moment a run is killed at, every block that it said was stored is found afterwards")
+@check("whatever moment a run is killed at, every block that it said was stored is found, and the head is its last or a later one")
 def kills(trial):
     large = random_block(trial.random, LARGE)
     store, calm = new_store(trial).put(large), Puts(trial.random, large)

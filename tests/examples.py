@@ -93,7 +93,7 @@ def examples(trial):
 @check("examples/run prints `store made` and what its examples print")
 def examples_run(trial):
     top = top_for(trial)
-    for names in ([], ["first"], ["first", "twice"], ["links"]):
+    for names in ([], ["first"], ["first", "twice"], ["links"], ["chain"]):
         wanted = "store made\n" + "".join(read(f"examples/{name}.out") for name in names or ["first"])
         expect(f"examples/run {' '.join(names)}", at_top(trial, top, "examples/run", *names), (wanted, 0))
 

@@ -63,7 +63,7 @@ def no_disk(trial):
         for argument in ("--version", "--help", "nonsense"):
             beside = trial.program.run(store.folder, argument)
             expect(f"{argument} on a store in use", beside, trial.program.run(trial.folder, argument))
-        expect("a script with a bad line on a store in use", store.trace("0 close\n"), Ended(9, b"error: script 1 9\n", b""))
+        expect("a script with a bad line on a store in use", store.trace("0 close\n"), Ended(9, b"error: script 1 3\n", b""))
 
 
 @check("a program that is killed releases its store")

@@ -88,6 +88,11 @@ def get_line(each):
     return f"0 get 0 {each.cid.hex()}\n"
 
 
+def head_line(*blocks):
+    """The line that sets these blocks as head."""
+    return " ".join(["0 head", *(each.cid.hex() for each in blocks)]) + "\n"
+
+
 def script_of(*lines):
     """A script that opens a view for client 0, and then has these lines."""
     return "".join(["0 open\n", *lines])

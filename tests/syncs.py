@@ -4,27 +4,31 @@ import errno
 from checking import check, expect, expect_that
 from failures import disk_fault, reason
 from formats import random_block
+from headers import header_block
 from interposed import on, run
-from model import Model
-from stores import (EXISTS, FILES, HOT, INIT, MADE, Store, answers, copied, files_in, found, get_line, new_folder, new_store, put_line,
-                    script_of)
+from model import Head, Model
+from stores import (EXISTS, FILES, HOT, INIT, MADE, Store, answers, copied, files_in, found, get_line, head_line, new_folder, new_store,
+                    put_line, script_of)
 
 
 def filled(trial):
     return new_store(trial).put(*(random_block(trial.random, length) for length in (0, 100, 5000)))
 
 
-@check("a put of new blocks makes two writes of the log, each followed by its data sync, and no other call writes or syncs")
+@check("a put of new blocks and a head make two writes of the log, each followed by its data sync, and no other call writes or syncs")
 def two_syncs(trial):
     store = filled(trial)
     one, two, three = (random_block(trial.random, length) for length in (10, 101, 70_000))
     end, wanted = len(store.log()) - 1, []
-    for blocks in ((one,), (two, three)):
-        need = Model.need({each.cid: each.data for each in blocks})
+    first, second = header_block(3, ticket=b"1"), header_block(3, ticket=b"2")
+    records = [*({each.cid: each.data for each in blocks} for blocks in ((one,), (two, three), (first, second))),
+               Head(3, (second.cid, first.cid))]
+    for need in map(Model.need, records):
         wanted += [("pwrite", end + 1, need), ("fdatasync", 0, 0), ("pwrite", end, 1), ("fdatasync", 0, 0)]
         end += need
     script = script_of(put_line(one), get_line(one), put_line(one, store.blocks[1]), put_line(two, three), get_line(three),
-                       put_line(*store.blocks), get_line(random_block(trial.random, 9)))
+                       put_line(*store.blocks), get_line(random_block(trial.random, 9)), put_line(first, second),
+                       head_line(first, second, one), head_line(second, first), "0 info\n", f"0 size 0 {one.cid.hex()}\n", "0 close 0\n")
     ended, made = run(trial, store.folder, "trace", script=script)
     expect("the status and standard error", (ended.status, ended.err), (0, b""))
     changes = on(made, HOT, "pwrite", "fdatasync", "fsync")

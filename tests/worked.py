@@ -12,6 +12,12 @@ NOTHING = "01551220e3b0c44298fc1c149afbf4c8996fb92427ae41e4649b934ca495991b7852b
 # An array of one link, to the block of no bytes.
 LINK = "01711220e23ea7332f00f1a1e026c0c4628d7dbebe36dfd743c84a1e564c0efc387a97d8"
 LINK_BYTES = "81d82a58250001551220e3b0c44298fc1c149afbf4c8996fb92427ae41e4649b934ca495991b7852b855"
+# An array of two links: to a commitment, and to a dag-cbor block.
+TWO_LINKS = "017112208833b1642b3146aa9032465363dbd8095e9ba90ea259ece50cda5c305435faf0"
+TWO_LINKS_BYTES = "82d82a5828000181e203922020" + "00" * 32 + "d82a5827000171a0e40220" + "00" * 32
+# Identity CIDs of headers without parents, of the heights 0 and 7.
+HEADER = "01710026904080808080804000d82a450001550000d82a450001550000d82a4500015500004000400040"
+HEADER_7 = "01710026904080808080804007d82a450001550000d82a450001550000d82a4500015500004000400040"
 
 # Scripts, each on a new store, with what they print.
 TRACES = {
@@ -36,14 +42,42 @@ TRACES = {
     "blocks that are no items, and a hash function that is not known": (
         "0 open\n0 put 0 017100028201 8201\n0 put 0 017100029fff 9fff\n0 put 0 0155130161 61\n",
         "1 0 1 open = opened 0\n2 0 2 put 0 = malformed 0 1 2\n3 0 3 put 0 = malformed 0 3 0\n4 0 4 put 0 = unknown-hash 0\n"),
+    "has and size answer without the block, and 0 bytes are a block": (
+        f"0 open\n0 put 0 {NOTHING} -\n0 size 0 {NOTHING}\n0 get 0 {NOTHING}\n0 get 0 {ABC}\n0 has 0 {ABC}\n",
+        "1 0 1 open = opened 0\n2 0 2 put 0 = stored 1\n3 0 3 size 0 = size 0\n4 0 4 get 0 = found -\n5 0 5 get 0 = not-found\n"
+        "6 0 6 has 0 = no\n"),
+    "a block of a put that was refused is not there": (
+        f"0 open\n0 put 0 {NOTHING} - {ABC} 616264\n0 has 0 {NOTHING}\n0 size 0 {NOTHING}\n",
+        "1 0 1 open = opened 0\n2 0 2 put 0 = mismatch 1\n3 0 3 has 0 = no\n4 0 4 size 0 = not-found\n"),
+    "the counts of a store that keeps nothing": (
+        "0 open\n0 get 0 bafkqaaa\n0 put 0 bafkqaaa -\n0 info\n",
+        "1 0 1 open = opened 0\n2 0 2 get 0 = found -\n3 0 3 put 0 = stored 0\n"
+        "4 0 4 info = info height - base 0 ended 0 hot 0 kept 0 views 1 running 0 due 0\n"),
+    "a block of two links, to blocks that are not there": (
+        f"0 open\n0 put 0 {TWO_LINKS} {TWO_LINKS_BYTES}\n0 size 0 {TWO_LINKS}\n0 info\n",
+        "1 0 1 open = opened 0\n2 0 2 put 0 = stored 1\n3 0 3 size 0 = size 88\n"
+        "4 0 4 info = info height - base 0 ended 0 hot 1 kept 1 views 1 running 0 due 0\n"),
+    "all views open, one closed, and what it was": (
+        "0 open\n" * 1025 + f"0 close 0\n0 get 0 {ABC}\n",
+        "".join(f"{line} 0 {line} open = opened {line - 1}\n" for line in range(1, 1025)) + "1025 0 1025 open = too-many-views\n"
+        "1026 0 1026 close 0 = closed\n1027 0 1027 get - = bad-view\n"),
+    "a view is closed once, by its client, and its number is given again": (
+        f"0 open\n0 open\n1 close 0\n0 close 0\n0 close 0\n1 open\n0 has 0 {ABC}\n1 has 0 {ABC}\n0 has 1 {ABC}\n",
+        "1 0 1 open = opened 0\n2 0 2 open = opened 1\n3 1 3 close - = bad-view\n4 0 4 close 0 = closed\n5 0 5 close - = bad-view\n"
+        "6 1 6 open = opened 0\n7 0 7 has - = bad-view\n8 1 8 has 0 = no\n9 0 9 has 1 = no\n"),
+    "heads that are refused": (
+        f"0 head\n0 head {ABC}\n0 open\n0 put 0 {ABC} 616263\n0 head {ABC}\n0 head {HEADER} {HEADER}\n0 info\n",
+        "1 0 1 head = tipset-empty\n2 0 2 head = absent 0\n3 0 3 open = opened 0\n4 0 4 put 0 = stored 1\n"
+        "5 0 5 head = tipset-not-header 0\n6 0 6 head = tipset-repeated 1\n"
+        "7 0 7 info = info height - base 0 ended 0 hot 1 kept 1 views 1 running 0 due 0\n"),
+    "headers under identity CIDs are set as head, without a view": (
+        f"3 head {HEADER}\n3 info\n0 head {HEADER_7}\n0 head {HEADER} {HEADER_7}\n0 info\n",
+        "1 3 1 head = head 0\n2 3 2 info = info height 0 base 0 ended 0 hot 0 kept 0 views 0 running 0 due 0\n3 0 3 head = head 7\n"
+        "4 0 4 head = tipset-height 1\n5 0 5 info = info height 7 base 0 ended 0 hot 0 kept 0 views 0 running 0 due 0\n"),
     "BLAKE2b of `abc`, and an array of one link": (
         f"0 open\n0 put 0 {ABC_BLAKE2B} 616263 {LINK} {LINK_BYTES}\n",
         "1 0 1 open = opened 0\n2 0 2 put 0 = stored 2\n"),
 }
-
-# Lines that have none of the forms.
-BAD_LINES = ["8 open", "0 close 0", "0 open x", "0 get 01 bafkqaaa", "0 get 4294967296 bafkqaaa", "0 get 0 bafkqaab",
-             "0 get 0 015500000", "0 put 0 bafkqaaa", "0 put 0 bafkqaaa 616", " open", "0 open\r"]
 
 # Arguments that are refused, with the position of the first invalid one.
 REFUSED = {
@@ -76,15 +110,6 @@ def traces(trial):
     for number, (what, (script, printed)) in enumerate(TRACES.items()):
         store = new_store(trial, str(number), "depth=0")
         expect(what, store.trace(script), Ended(0, printed.encode("ascii"), b""))
-
-
-@check("a line that has none of the forms is named, and nothing is done")
-def bad_lines(trial):
-    folder = new_folder(trial, "no store")
-    for line in BAD_LINES:
-        ended = trial.program.run(folder, "trace", script=f"# first\n0 open\n{line}\n")
-        expect(f"a script with the line {line!r}", ended, Ended(9, b"error: script 3 9\n", b""))
-    expect("the folder", Store(trial.program, folder).files(), {})
 
 
 @check("the first invalid argument is named, and nothing is done")

@@ -1,5 +1,5 @@
 -- The endings of a run of `trace`.
-use Rattle.std.proofs.Common.{◌≡◌, ◌⊎◌, inl, inr, Bool, true, false, ℕ, ◌<◌, ◌≤◌, List, [], ◌++◌, Option, Ok, Err, refl, sym, ap, ◌∙◌, subst, length, append_assoc, arith}
+use Rattle.std.proofs.Common.{◌≡◌, ◌⊎◌, inl, inr, Bool, true, false, ℕ, ◌<◌, ◌≤◌, List, [], ◌++◌, Ok, Err, refl, sym, ap, ◌∙◌, subst, append_assoc, arith}
 use Rattle.std.specs.Prelude.{IsTrue}
 use Rattle.std.specs.List.{list_any}
 use Rattle.std.proofs.lemmas.List.{append-nil}
@@ -7,13 +7,9 @@ use Rattle.ss_io.specs.Written.{AppendsFront}
 use Rattle.ss_disk.specs.declared.disk.Disk.{Ghosts}
 use Rattle.ss_disk.specs.Disk.{Same}
 use Rattle.ss_disk.specs.Calls.{Goes}
-use Rattle.ss_model.specs.State.{State}
-use Rattle.ss_model.specs.declared.call.Entry.{Entry}
-use Rattle.ss_core.specs.declared.split_core.SplitCore.{SplitCore}
-use Rattle.ss_core.specs.StandsFor.{HasState}
 use Rattle.ss_open.specs.declared.fault.OpenFault.{OpenFault}
 use Rattle.ss_open.specs.declared.fault.OpenFault.TheVariants as opening
-use Rattle.ss_open.specs.Opening.{Opened, Opens, HasNoStore}
+use Rattle.ss_open.specs.Opening.{Opened, Opens}
 use Rattle.ss_open.proofs.Openings.{stands_apart}
 use Rattle.ss_script.specs.declared.line.Line.{Line}
 use Rattle.ss_script.specs.Text.{text}
@@ -23,9 +19,10 @@ use Rattle.ss_app.specs.declared.ending.Ending.TheVariants.{Done, NoMemory, BadS
 use Rattle.ss_app.specs.declared.ending.Ending.TheVariants as ends
 use Rattle.ss_app.specs.Ending.{line_of, status_of, ending_of_open}
 use Rattle.ss_app.specs.History.{IsFulfilled, faults_in, is_refused}
-use Rattle.ss_app.specs.Outcome.{Says, Reads, Traced, CallsMade, HasReason, CountsSource, CountsDisk, IsWhole, AsksFor, IsLegalFrom, IsValidTrace}
+use Rattle.ss_app.specs.Outcome.{Says, Reads, Traced, CallsMade, HasReason, CountsSource, CountsDisk, IsWhole, IsLegalFrom, IsValidTrace}
+use Rattle.ss_script.specs.Views.{no_views}
 use Rattle.ss_app.specs.Run.{InOrder}
-use Rattle.ss_app.specs.World.{Input, World}
+use Rattle.ss_app.specs.World.{World}
 use Rattle.ss_app.proofs.Appending.{front_of_more, front_whole}
 use Rattle.ss_app.proofs.Fulfilled.{fulfilled, no_faults, err_or_ok, oks}
 use Rattle.ss_app.proofs.Sayings.{says_behind, none_counted}
@@ -143,7 +140,7 @@ module _ {D : Type 0} (disk : Ghosts D) (old new : World D) (status : ℕ) where
         by : (m.history ≡ []) ⊎ IsLegalFrom disk old.disk new.disk m.history → list_any is_refused m.history ≡ false
         by (inl none) = subst (λ h. list_any is_refused h ≡ false) (sym none) refl
         by (inr l) = fulfilled l.state l.end m.history l.legal l.rooms
-            (valid.place l.state l.end m.history l.stands (subst (λ ls. InOrder [] ls m.history) (sym asked_is) m.in_order) l.legal)
+            (valid.place l.state l.end m.history l.stands (subst (λ ls. InOrder no_views ls m.history) (sym asked_is) m.in_order) l.legal)
             (no_faults (disk.faults old.disk) (disk.faults new.disk) (faults_in m.history) m.faults.enough valid.faults)
 
     -- a run that made calls, and wrote how it ended

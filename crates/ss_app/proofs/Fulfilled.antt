@@ -10,6 +10,7 @@ use Rattle.ss_model.specs.declared.call.Answer.{Answer}
 use Rattle.ss_model.specs.declared.call.Answer.TheVariants as answer
 use Rattle.ss_model.specs.declared.call.PutReply.TheVariants as put
 use Rattle.ss_model.specs.declared.call.GetReply.TheVariants as get
+use Rattle.ss_model.specs.declared.call.HeadReply.TheVariants as head
 use Rattle.ss_model.specs.declared.call.Entry.{Entry}
 use Rattle.ss_model.proofs.Need.{record_takes}
 use Rattle.ss_core.specs.Calls.{OfFullLog}
@@ -33,10 +34,23 @@ no_row after rows most fits is more = omega (arith, fits, is, more)
 one : (s : State) (end : ℕ) (client line : ℕ) (k : Call) (a : Answer) → Lawful s k a → OfFullLog (λ file need room. room ≡ s.config.limit - 1 - end) a → HasPlace s end k
     → faults_in (record { client = client; line = line; call = k; answer = a } ∷ []) ≡ 0 → is_refused (record { client = client; line = line; call = k; answer = a }) ≡ false
 one s end client line call.OpenView (answer.View r) lawful room place none = refl
+one s end client line call.OpenView (answer.Close r) lawful room place none = absurd lawful
 one s end client line call.OpenView (answer.Put r) lawful room place none = absurd lawful
 one s end client line call.OpenView (answer.Get r) lawful room place none = absurd lawful
+one s end client line call.OpenView (answer.Has r) lawful room place none = absurd lawful
+one s end client line call.OpenView (answer.Size r) lawful room place none = absurd lawful
+one s end client line call.OpenView (answer.Head r) lawful room place none = absurd lawful
+one s end client line call.OpenView (answer.Info r) lawful room place none = absurd lawful
+one s end client line (call.CloseView v) (answer.View r) lawful room place none = absurd lawful
+one s end client line (call.CloseView v) (answer.Close r) lawful room place none = refl
+one s end client line (call.CloseView v) (answer.Put r) lawful room place none = absurd lawful
+one s end client line (call.CloseView v) (answer.Get r) lawful room place none = absurd lawful
+one s end client line (call.CloseView v) (answer.Has r) lawful room place none = absurd lawful
+one s end client line (call.CloseView v) (answer.Size r) lawful room place none = absurd lawful
+one s end client line (call.CloseView v) (answer.Head r) lawful room place none = absurd lawful
+one s end client line (call.CloseView v) (answer.Info r) lawful room place none = absurd lawful
 one s end client line (call.Put v pairs) (answer.View r) lawful room place none = absurd lawful
-one s end client line (call.Put v pairs) (answer.Get r) lawful room place none = absurd lawful
+one s end client line (call.Put v pairs) (answer.Close r) lawful room place none = absurd lawful
 one s end client line (call.Put v pairs) (answer.Put put.BadView) lawful room place none = refl
 one s end client line (call.Put v pairs) (answer.Put (put.TooMany n)) lawful room place none = refl
 one s end client line (call.Put v pairs) (answer.Put (put.TooBig n)) lawful room place none = refl
@@ -50,13 +64,65 @@ one s end client line (call.Put v pairs) (answer.Put (put.LogFull file need free
     absurd (no_room need free _ _ (some_bytes _ lawful.2 ∙ sym lawful.3) (place lawful.0.passed).1 room lawful.4)
 one s end client line (call.Put v pairs) (answer.Put put.DiskFault) lawful room place none = absurd (more_than_none 0 none)
 one s end client line (call.Put v pairs) (answer.Put (put.Stored new)) lawful room place none = refl
+one s end client line (call.Put v pairs) (answer.Get r) lawful room place none = absurd lawful
+one s end client line (call.Put v pairs) (answer.Has r) lawful room place none = absurd lawful
+one s end client line (call.Put v pairs) (answer.Size r) lawful room place none = absurd lawful
+one s end client line (call.Put v pairs) (answer.Head r) lawful room place none = absurd lawful
+one s end client line (call.Put v pairs) (answer.Info r) lawful room place none = absurd lawful
 one s end client line (call.Get v c) (answer.View r) lawful room place none = absurd lawful
+one s end client line (call.Get v c) (answer.Close r) lawful room place none = absurd lawful
 one s end client line (call.Get v c) (answer.Put r) lawful room place none = absurd lawful
 one s end client line (call.Get v c) (answer.Get get.BadView) lawful room place none = refl
 one s end client line (call.Get v c) (answer.Get get.NotFound) lawful room place none = refl
 one s end client line (call.Get v c) (answer.Get get.NoMemory) lawful room place none = refl
 one s end client line (call.Get v c) (answer.Get get.DiskFault) lawful room place none = absurd (more_than_none 0 none)
 one s end client line (call.Get v c) (answer.Get (get.Found block)) lawful room place none = refl
+one s end client line (call.Get v c) (answer.Has r) lawful room place none = absurd lawful
+one s end client line (call.Get v c) (answer.Size r) lawful room place none = absurd lawful
+one s end client line (call.Get v c) (answer.Head r) lawful room place none = absurd lawful
+one s end client line (call.Get v c) (answer.Info r) lawful room place none = absurd lawful
+one s end client line (call.Has v c) (answer.View r) lawful room place none = absurd lawful
+one s end client line (call.Has v c) (answer.Close r) lawful room place none = absurd lawful
+one s end client line (call.Has v c) (answer.Put r) lawful room place none = absurd lawful
+one s end client line (call.Has v c) (answer.Get r) lawful room place none = absurd lawful
+one s end client line (call.Has v c) (answer.Has r) lawful room place none = refl
+one s end client line (call.Has v c) (answer.Size r) lawful room place none = absurd lawful
+one s end client line (call.Has v c) (answer.Head r) lawful room place none = absurd lawful
+one s end client line (call.Has v c) (answer.Info r) lawful room place none = absurd lawful
+one s end client line (call.Size v c) (answer.View r) lawful room place none = absurd lawful
+one s end client line (call.Size v c) (answer.Close r) lawful room place none = absurd lawful
+one s end client line (call.Size v c) (answer.Put r) lawful room place none = absurd lawful
+one s end client line (call.Size v c) (answer.Get r) lawful room place none = absurd lawful
+one s end client line (call.Size v c) (answer.Has r) lawful room place none = absurd lawful
+one s end client line (call.Size v c) (answer.Size r) lawful room place none = refl
+one s end client line (call.Size v c) (answer.Head r) lawful room place none = absurd lawful
+one s end client line (call.Size v c) (answer.Info r) lawful room place none = absurd lawful
+one s end client line (call.SetHead cids) (answer.View r) lawful room place none = absurd lawful
+one s end client line (call.SetHead cids) (answer.Close r) lawful room place none = absurd lawful
+one s end client line (call.SetHead cids) (answer.Put r) lawful room place none = absurd lawful
+one s end client line (call.SetHead cids) (answer.Get r) lawful room place none = absurd lawful
+one s end client line (call.SetHead cids) (answer.Has r) lawful room place none = absurd lawful
+one s end client line (call.SetHead cids) (answer.Size r) lawful room place none = absurd lawful
+one s end client line (call.SetHead cids) (answer.Head head.Empty) lawful room place none = refl
+one s end client line (call.SetHead cids) (answer.Head (head.TooMany n)) lawful room place none = refl
+one s end client line (call.SetHead cids) (answer.Head (head.Repeated i)) lawful room place none = refl
+one s end client line (call.SetHead cids) (answer.Head (head.Absent i)) lawful room place none = refl
+one s end client line (call.SetHead cids) (answer.Head head.NoMemory) lawful room place none = refl
+one s end client line (call.SetHead cids) (answer.Head (head.NotHeader i)) lawful room place none = refl
+one s end client line (call.SetHead cids) (answer.Head (head.HeightDiffers i)) lawful room place none = refl
+one s end client line (call.SetHead cids) (answer.Head (head.ParentsDiffer i)) lawful room place none = refl
+one s end client line (call.SetHead cids) (answer.Head (head.LogFull file need free)) lawful room place none = absurd (no_room need free _ _ (sym lawful.2) (place lawful.0.0 lawful.0.1) room lawful.3)
+one s end client line (call.SetHead cids) (answer.Head head.DiskFault) lawful room place none = absurd (more_than_none 0 none)
+one s end client line (call.SetHead cids) (answer.Head (head.Set height)) lawful room place none = refl
+one s end client line (call.SetHead cids) (answer.Info r) lawful room place none = absurd lawful
+one s end client line call.Info (answer.View r) lawful room place none = absurd lawful
+one s end client line call.Info (answer.Close r) lawful room place none = absurd lawful
+one s end client line call.Info (answer.Put r) lawful room place none = absurd lawful
+one s end client line call.Info (answer.Get r) lawful room place none = absurd lawful
+one s end client line call.Info (answer.Has r) lawful room place none = absurd lawful
+one s end client line call.Info (answer.Size r) lawful room place none = absurd lawful
+one s end client line call.Info (answer.Head r) lawful room place none = absurd lawful
+one s end client line call.Info (answer.Info r) lawful room place none = refl
 
 parts : (m n : ℕ) → m + n ≡ 0 → (m + 0 ≡ 0) × (n ≡ 0)
 parts m n e = (omega (arith, e), omega (arith, e))

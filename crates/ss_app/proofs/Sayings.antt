@@ -1,6 +1,6 @@
 -- What is said of a text, and of a store that is made.
-use Rattle.std.proofs.Common.{◌≡◌, ◌⊎◌, inl, inr, ℕ, List, [], ◌++◌, Option, Ok, Err, refl, sym, ◌∙◌, subst, arith}
-use Rattle.std.specs.Prelude.{IsTrue, codes, None}
+use Rattle.std.proofs.Common.{◌≡◌, inl, inr, ℕ, List, [], ◌++◌, Ok, Err, refl, sym, ◌∙◌, subst, arith}
+use Rattle.std.specs.Prelude.{IsTrue, codes}
 use Rattle.std.proofs.lemmas.List.{append-nil}
 use Rattle.std.specs.Io.KnownBytes.{Appends}
 use Rattle.ss_disk.specs.declared.disk.Disk.{Ghosts}
@@ -9,7 +9,7 @@ use Rattle.ss_records.specs.declared.record.Config.{Config as Settings}
 use Rattle.ss_core.specs.declared.split_core.SplitCore.{SplitCore}
 use Rattle.ss_open.specs.declared.fault.OpenFault.{OpenFault}
 use Rattle.ss_open.specs.declared.fault.OpenFault.TheVariants as opening
-use Rattle.ss_open.specs.Opening.{Made, Inits, disk_of}
+use Rattle.ss_open.specs.Opening.{Made, Inits}
 use Rattle.ss_app.specs.declared.ending.Ending.TheVariants.{Done, NoMemory, DiskFault, StoreExists}
 use Rattle.ss_app.specs.Ending.{line_of, status_of, ending_of_open}
 use Rattle.ss_app.specs.History.{AreCounted}

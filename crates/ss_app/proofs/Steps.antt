@@ -1,12 +1,12 @@
 -- How far a run has come: the entries so far, what they left of the store, and what was printed of them.
-use Rattle.std.proofs.Common.{◌≡◌, ◌⊎◌, inl, inr, ℕ, suc, min, ◌<◌, ◌≤◌, ◌+◌, ◌-◌, ◌^◌, Bool, true, false, List, [], ◌∷◌, ◌++◌, length, Option, None, Some, Result, Ok, Err, refl, sym, ap, ◌∙◌, subst, append_assoc, arith, add-zero, length-append, true≢false}
+use Rattle.std.proofs.Common.{◌≡◌, ◌⊎◌, inl, inr, ℕ, suc, min, ◌≤◌, ◌+◌, ◌-◌, ◌^◌, Bool, true, false, List, [], ◌∷◌, ◌++◌, length, Option, None, Some, Result, Ok, Err, refl, sym, ap, ◌∙◌, subst, append_assoc, arith, add-zero, length-append, true≢false}
 use Rattle.std.specs.Io.KnownBytes.{Appends}
 use Rattle.std.proofs.lemmas.List.{append-nil}
 use Rattle.std.proofs.lemmas.List.Elements.{All-pop}
 use Rattle.std.specs.Prelude.{if◌then◌else◌, OnOk, IsTrue}
 use Rattle.ss_cid.specs.declared.memory.NoMemory as no_memory
 use Rattle.ss_disk.specs.declared.disk.Disk.{Ghosts}
-use Rattle.ss_disk.specs.Disk.{Files, Same, Rose}
+use Rattle.ss_disk.specs.Disk.{Same, Rose}
 use Rattle.ss_disk.specs.Calls.{Goes, Touches}
 use Rattle.ss_disk.proofs.Goes.{touches_on}
 use Rattle.ss_records.specs.declared.record.Config.{Config as Settings}
@@ -16,25 +16,25 @@ use Rattle.ss_model.specs.State.{State}
 use Rattle.ss_model.specs.Lawful.{Lawful, After, is_disk_fault}
 use Rattle.ss_model.specs.History.{Legal, AfterAll}
 use Rattle.ss_model.specs.declared.call.Call.{Call}
-use Rattle.ss_model.specs.declared.call.Call.TheVariants as call
-use Rattle.ss_model.specs.declared.call.ViewReply.TheVariants as view
 use Rattle.ss_model.specs.declared.call.Answer.{Answer}
 use Rattle.ss_model.specs.declared.call.Answer.TheVariants as answer
 use Rattle.ss_model.specs.declared.call.PutReply.TheVariants as put
+use Rattle.ss_model.specs.declared.call.HeadReply.TheVariants as head
 use Rattle.ss_model.specs.declared.call.Entry.{Entry}
+use Rattle.ss_model.proofs.Each.{after_each}
 use Rattle.ss_core.specs.declared.split_core.SplitCore.{SplitCore}
 use Rattle.ss_core.specs.Calls.{Steps, Makes, OfFullLog}
 use Rattle.ss_core.specs.Effect.{bytes_of, Doubts}
 use Rattle.ss_core.specs.StandsFor.{HasState, StandsFor, HasEitherState}
 use Rattle.ss_core.proofs.Images.{image_state}
 use Rattle.ss_script.specs.declared.line.Line.{Line}
-use Rattle.ss_script.specs.Views.{AreViews, views_of, resolved}
+use Rattle.ss_script.specs.Views.{no_views, client_views, resolved, closing_view, after_answer, after_line}
 use Rattle.ss_script.specs.Text.{text_from, entry_text}
 use Rattle.ss_app.specs.declared.ending.Ending.TheVariants.{Done, NoMemory}
-use Rattle.ss_app.specs.History.{AreCounted, HasRoomsBy, IsLimit, AreRooms, AreDoubts, AreStill, effect_at, faults_in, end_after}
+use Rattle.ss_app.specs.History.{AreCounted, HasRoomsBy, IsLimit, AreRooms, AreDoubts, effect_at, faults_in, end_after}
 use Rattle.ss_app.specs.Outcome.{CallsMade, IsHistory, HasStore}
 use Rattle.ss_app.specs.Printing.{PrintsUnless}
-use Rattle.ss_app.specs.Progress.{Trail, IsToldStory, Story, Progress, Cut, Stepped, end_behind}
+use Rattle.ss_app.specs.Progress.{Trail, IsToldStory, Story, Progress, Cut, Stepped, end_behind, views_behind}
 use Rattle.ss_app.specs.Run.{IsEntryOf, InOrder}
 use Rattle.ss_app.specs.World.{Output}
 use Rattle.ss_app.proofs.Appending.{appends_more, appends_none}
@@ -55,7 +55,7 @@ end_more s end [] e = refl
 end_more s end (x ∷ h) e = end_more (After s x.call x.answer) (end_after s end x) h e
 
 rooms_more : (s : State) (end : ℕ) (h : List Entry) (e : Entry) → AreRooms s end h → OfFullLog (λ file need room. room ≡ (AfterAll s h).config.limit - 1 - end_behind s end h) e.answer
-    → bytes_of (effect_at (AfterAll s h) e).writes + bytes_of (effect_at (AfterAll s h) e).doubts ≤ (AfterAll s h).config.limit - 1 - end_behind s end h → AreRooms s end (h ++ e ∷ [])
+    → (effect_at (AfterAll s h) e).needs ≤ (AfterAll s h).config.limit - 1 - end_behind s end h → AreRooms s end (h ++ e ∷ [])
 rooms_more s end [] e are is had = (is, had, tt)
 rooms_more s end (x ∷ h) e are is had = (are.0, are.1, rooms_more (After s x.call x.answer) (end_after s end x) h e are.2 is had)
 
@@ -66,7 +66,22 @@ doubts_more s old (x ∷ h) e mid new are is = (are.0, are.1, doubts_more (After
 -- what holds of a full log's numbers, by what else does
 full_log : (P Q : ℕ → ℕ → ℕ → Type 0) (a : Answer) → ((file need room : ℕ) → P file need room → Q file need room) → OfFullLog P a → OfFullLog Q a
 full_log P Q (answer.View r) f h = tt
+full_log P Q (answer.Close r) f h = tt
 full_log P Q (answer.Get r) f h = tt
+full_log P Q (answer.Has r) f h = tt
+full_log P Q (answer.Size r) f h = tt
+full_log P Q (answer.Info i) f h = tt
+full_log P Q (answer.Head head.Empty) f h = tt
+full_log P Q (answer.Head (head.TooMany n)) f h = tt
+full_log P Q (answer.Head (head.Repeated i)) f h = tt
+full_log P Q (answer.Head (head.Absent i)) f h = tt
+full_log P Q (answer.Head head.NoMemory) f h = tt
+full_log P Q (answer.Head (head.NotHeader i)) f h = tt
+full_log P Q (answer.Head (head.HeightDiffers i)) f h = tt
+full_log P Q (answer.Head (head.ParentsDiffer i)) f h = tt
+full_log P Q (answer.Head (head.LogFull file need room)) f h = f file need room h
+full_log P Q (answer.Head head.DiskFault) f h = tt
+full_log P Q (answer.Head (head.Set height)) f h = tt
 full_log P Q (answer.Put put.BadView) f h = tt
 full_log P Q (answer.Put (put.TooMany n)) f h = tt
 full_log P Q (answer.Put (put.TooBig n)) f h = tt
@@ -111,25 +126,7 @@ counted_more before mid now h e few later rose same = by (is_disk_fault e.answer
 
 -- no answer changes the settings
 config_stays : (s : State) (k : Call) (a : Answer) → (After s k a).config ≡ s.config
-config_stays s call.OpenView (answer.View (view.Opened n)) = refl
-config_stays s call.OpenView (answer.View view.TooManyViews) = refl
-config_stays s call.OpenView (answer.Put r) = refl
-config_stays s call.OpenView (answer.Get r) = refl
-config_stays s (call.Put v pairs) (answer.View r) = refl
-config_stays s (call.Put v pairs) (answer.Get r) = refl
-config_stays s (call.Put v pairs) (answer.Put put.BadView) = refl
-config_stays s (call.Put v pairs) (answer.Put (put.TooMany n)) = refl
-config_stays s (call.Put v pairs) (answer.Put (put.TooBig n)) = refl
-config_stays s (call.Put v pairs) (answer.Put (put.TooLarge i)) = refl
-config_stays s (call.Put v pairs) (answer.Put (put.UnknownHash i)) = refl
-config_stays s (call.Put v pairs) (answer.Put (put.Mismatch i)) = refl
-config_stays s (call.Put v pairs) (answer.Put (put.Malformed i kind at)) = refl
-config_stays s (call.Put v pairs) (answer.Put put.NoMemory) = refl
-config_stays s (call.Put v pairs) (answer.Put (put.TableFull rows)) = refl
-config_stays s (call.Put v pairs) (answer.Put (put.LogFull file need room)) = refl
-config_stays s (call.Put v pairs) (answer.Put put.DiskFault) = refl
-config_stays s (call.Put v pairs) (answer.Put (put.Stored new)) = refl
-config_stays s (call.Get v c) a = refl
+config_stays s k a = after_each s k a (λ t. t.config ≡ s.config) (record { same = refl; opened = λ n few. refl; closed = λ v. refl; stored = λ v pairs admitted. refl; headed = λ cids height is. refl })
 
 config_all : (s : State) (h : List Entry) → (AfterAll s h).config ≡ s.config
 config_all s [] = refl
@@ -146,7 +143,7 @@ module _ {D : Type 0} {disk : Ghosts D} (was : D) where
     end = p.end;
     stands = p.stands;
     legal = legal_more p.state h e p.legal step.lawful;
-    rooms = rooms_more p.state p.end h e p.rooms (full_log _ _ e.answer (λ file need room is. is.1 ∙ room_is old h p) made.full) (subst (λ n. bytes_of (effect_at (AfterAll p.state h) e).writes + bytes_of (effect_at (AfterAll p.state h) e).doubts ≤ n) (room_is old h p) step.roomy);
+    rooms = rooms_more p.state p.end h e p.rooms (full_log _ _ e.answer (λ file need room is. is.1 ∙ room_is old h p) made.full) (subst (λ n. (effect_at (AfterAll p.state h) e).needs ≤ n) (room_is old h p) step.roomy);
     doubt = step.now;
     doubts = doubts_more p.state None h e p.doubt step.now p.doubts step.doubts;
     serves = subst (λ s. StandsFor new s step.now) (sym (after_more p.state h e)) step.after;
@@ -191,23 +188,33 @@ text_more place (x ∷ h) e =
     text_more (place + 1) h e ∙ ap (λ n. text_from (place + 1) h ++ entry_text n e) (omega arith) in
     ap (λ t. entry_text place x ++ t) behind ∙ sym (append_assoc (entry_text place x) (text_from (place + 1) h) _)
 
-in_order_more : (before : List Entry) (lines : List Line) (h : List Entry) (line : Line) (e : Entry) → InOrder before lines h → IsEntryOf (before ++ h) line e → InOrder before (lines ++ line ∷ []) (h ++ e ∷ [])
-in_order_more before [] [] line e order is = (subst (λ b. IsEntryOf b line e) (append-nil before) is, tt)
-in_order_more before [] (x ∷ h) line e order is = absurd order
-in_order_more before (l ∷ lines) [] line e order is = absurd order
-in_order_more before (l ∷ lines) (x ∷ h) line e order is =
-    (order.0, in_order_more (before ++ x ∷ []) lines h line e order.1 (subst (λ b. IsEntryOf b line e) (sym (append_assoc before (x ∷ []) h)) is))
+in_order_more : (views : List (List ℕ)) (lines : List Line) (h : List Entry) (line : Line) (e : Entry) → InOrder views lines h → IsEntryOf (views_behind views lines h) line e → InOrder views (lines ++ line ∷ []) (h ++ e ∷ [])
+in_order_more views [] [] line e order is = (is, tt)
+in_order_more views [] (x ∷ h) line e order is = absurd order
+in_order_more views (l ∷ lines) [] line e order is = absurd order
+in_order_more views (l ∷ lines) (x ∷ h) line e order is = (order.0, in_order_more (after_line views l x.answer) lines h line e order.1 is)
+
+views_more : (views : List (List ℕ)) (lines : List Line) (h : List Entry) (line : Line) (e : Entry) → InOrder views lines h → views_behind views (lines ++ line ∷ []) (h ++ e ∷ []) ≡ after_line (views_behind views lines h) line e.answer
+views_more views [] [] line e order = refl
+views_more views [] (x ∷ h) line e order = absurd order
+views_more views (l ∷ lines) [] line e order = absurd order
+views_more views (l ∷ lines) (x ∷ h) line e order = views_more (after_line views l x.answer) lines h line e order.1
+
+-- what was noted of an answer is what its line makes of the views
+pub recorded_is : {E : Type 0} (r : Result (Unit {0}) E) (views given : List (List ℕ)) (line : Line) (client : ℕ) (closing : Option ℕ) (answer : Answer) → client ≡ line.client → closing ≡ closing_view line.call → OnOk r (given ≡ after_answer views client closing answer) → OnOk r (given ≡ after_line views line answer)
+recorded_is (Ok x) views given line client closing answer same closes is = is ∙ ap (λ c. after_answer views c closing answer) same ∙ ap (λ k. after_answer views line.client k answer) closes
+recorded_is (Err e) views given line client closing answer same closes is = tt
 
 -- one entry more, of whose text this front is printed
 trail_more : (h : List Entry) (unprinted : List ℕ) (refused now : Bool) (made : List Line) (old mid new : Output) (line : Line) (e : Entry) (front rest : List ℕ)
     → Trail h unprinted refused made old mid
-    → IsEntryOf h line e
+    → IsEntryOf (views_behind no_views made h) line e
     → unprinted ++ entry_text (1 + length h) e ≡ front ++ rest → Appends mid.written new.written front
     → (now ≡ false → new.faults ≡ old.faults) → (now ≡ true → Rose old.faults new.faults)
     → Trail (h ++ e ∷ []) rest now (made ++ line ∷ []) old new
 trail_more h unprinted refused now made old mid new line e front rest trail is cut wrote sound rose = record {
   printed = trail.printed ++ front;
-  in_order = in_order_more [] made h line e trail.in_order is;
+  in_order = in_order_more no_views made h line e trail.in_order is;
   text_is = text_more 1 h e ∙ ap (λ t. t ++ entry_text (1 + length h) e) trail.text_is ∙ append_assoc trail.printed unprinted _ ∙ ap (λ t. trail.printed ++ t) cut ∙ sym (append_assoc trail.printed front rest);
   wrote = appends_more old.written mid.written new.written trail.printed front trail.wrote wrote;
   sound = sound;
@@ -229,12 +236,12 @@ module _ {D : Type 0} {disk : Ghosts D} (was : D) where
   -- an entry is made, and printed as far as the sink goes along
   one_more : (core next : SplitCore D disk) (views : List (List ℕ)) (place : ℕ) (refused now : Bool) (made : List Line) (old mid new : Output) (line : Line) (e : Entry)
       → (p : Progress was core views place refused made old mid)
-      → e.client ≡ line.client → e.line ≡ line.line → ((h : List Entry) → AreViews views h → e.call ≡ resolved (views_of line.client h) line.call)
+      → e.client ≡ line.client → e.line ≡ line.line → e.call ≡ resolved (client_views views line.client) line.call
       → ((h : List Entry) → Story was core h → Story was next (h ++ e ∷ []))
       → PrintsUnless refused mid new now (entry_text (place + 1) e)
       → (unprinted : List ℕ) × Trail (p.history ++ e ∷ []) unprinted now (made ++ line ∷ []) old new × (now ≡ false → unprinted ≡ []) × Story was next (p.history ++ e ∷ [])
   one_more core next views place refused now made old mid new line e p client number call story printed =
-      let mine : IsEntryOf p.history line e = record { client = client; line_is = number; call_is = call p.history p.views_are } in
+      let mine : IsEntryOf (views_behind no_views made p.history) line e = subst (λ v. IsEntryOf v line e) p.views_are (record { client = client; line_is = number; call_is = call }) in
       let at : place + 1 ≡ 1 + length p.history = omega (arith, p.place_is) in
       let cut = prints refused now old mid new p.unprinted (entry_text (1 + length p.history) e) (subst (λ n. PrintsUnless refused mid new now (entry_text n e)) at printed) p.all_printed p.trail.sound p.trail.rose in
       (cut.1, trail_more p.history p.unprinted refused now made old mid new line e cut.0 cut.1 p.trail mine cut.2 cut.3 cut.4 cut.5, cut.6, story p.history p.story)
@@ -245,10 +252,10 @@ module _ {D : Type 0} {disk : Ghosts D} (was : D) where
   -- the same as the session's step leaves it
   pub stepped : (core next : SplitCore D disk) (views given : List (List ℕ)) (place : ℕ) (refused now : Bool) (made : List Line) (old mid new : Output) (line : Line) (e : Entry) (r : Result (Unit {0}) no_memory.NoMemory)
       → Progress was core views place refused made old mid
-      → e.client ≡ line.client → e.line ≡ line.line → ((h : List Entry) → AreViews views h → e.call ≡ resolved (views_of line.client h) line.call)
+      → e.client ≡ line.client → e.line ≡ line.line → e.call ≡ resolved (client_views views line.client) line.call
       → ((h : List Entry) → Story was core h → Story was next (h ++ e ∷ []))
       → PrintsUnless refused mid new now (entry_text (place + 1) e)
-      → OnOk r ((h : List Entry) → AreViews views h → AreViews given (h ++ e ∷ []))
+      → OnOk r (given ≡ after_line views line e.answer)
       → Stepped was next given (place + 1) now (made ++ line ∷ []) old new r
   stepped core next views given place refused now made old mid new line e (Ok x) p client number call story printed recorded =
       let one = one_more core next views place refused now made old mid new line e p client number call story printed in record {
@@ -257,7 +264,7 @@ module _ {D : Type 0} {disk : Ghosts D} (was : D) where
         trail = one.1;
         all_printed = one.2;
         story = one.3;
-        views_are = recorded p.history p.views_are;
+        views_are = recorded ∙ ap (λ v. after_line v line e.answer) p.views_are ∙ sym (views_more no_views made p.history line e p.trail.in_order);
         place_is = ap (λ n. n + 1) p.place_is ∙ sym (length-append p.history (e ∷ []));
       }
   stepped core next views given place refused now made old mid new line e (Err m) p client number call story printed recorded =
@@ -265,7 +272,7 @@ module _ {D : Type 0} {disk : Ghosts D} (was : D) where
       record { history = p.history ++ e ∷ []; unprinted = one.0; trail = one.1; story = one.3 }
 
   -- a run that has made no call
-  pub begun : (core : SplitCore D disk) (views : List (List ℕ)) (place : ℕ) (refused : Bool) (old : Output) → Story was core [] → AreViews views [] × (place ≡ 0) × (refused ≡ false) → Progress was core views place refused [] old old
+  pub begun : (core : SplitCore D disk) (views : List (List ℕ)) (place : ℕ) (refused : Bool) (old : Output) → Story was core [] → (views ≡ no_views) × (place ≡ 0) × (refused ≡ false) → Progress was core views place refused [] old old
   begun core views place refused old story are = record {
     history = [];
     unprinted = [];

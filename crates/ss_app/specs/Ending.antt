@@ -1,6 +1,5 @@
 -- The status of each ending of a run, and the line that tells why.
-use Rattle.std.specs.Prelude.{ℕ, List, [], ◌∷◌, ◌++◌, codes, Result, Ok, Err}
-use Rattle.ss_io.specs.declared.failed.Failed.{Failed}
+use Rattle.std.specs.Prelude.{ℕ, List, [], ◌∷◌, ◌++◌, codes}
 use Rattle.ss_io.specs.declared.whole.ReadAllFault.{ReadAllFault}
 use Rattle.ss_io.specs.declared.whole.ReadAllFault.TheVariants as input
 use Rattle.ss_script.specs.declared.fault.ScriptFault.{ScriptFault}

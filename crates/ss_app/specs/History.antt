@@ -4,6 +4,7 @@ use Rattle.std.specs.Prelude.{◌≡◌, ◌⊎◌, ℕ, min, ◌+◌, ◌-◌, 
 use Rattle.std.specs.List.{list_any}
 use Rattle.ss_records.specs.declared.record.Record.{Record}
 use Rattle.ss_model.specs.State.{State}
+use Rattle.ss_model.specs.Head.{IsHead, head_need}
 use Rattle.ss_model.specs.Lawful.{After, IsPassed, new_pairs, rows_after, is_disk_fault, is_log_full, is_table_full, is_no_memory}
 use Rattle.ss_model.specs.declared.call.Call.{Call}
 use Rattle.ss_model.specs.declared.call.Call.TheVariants as call
@@ -46,7 +47,7 @@ end_after s end e = end + bytes_of (effect_at s e).writes
 abbrev pub AreRooms : State → ℕ → List Entry → Type 0
 AreRooms s end [] = Unit {0}
 AreRooms s end (e ∷ h) =
-    OfFullLog (λ file need room. room ≡ s.config.limit - 1 - end) e.answer × (bytes_of (effect_at s e).writes + bytes_of (effect_at s e).doubts ≤ s.config.limit - 1 - end) × AreRooms (After s e.call e.answer) (end_after s end e) h
+    OfFullLog (λ file need room. room ≡ s.config.limit - 1 - end) e.answer × ((effect_at s e).needs ≤ s.config.limit - 1 - end) × AreRooms (After s e.call e.answer) (end_after s end e) h
 
 -- the record that may be in doubt after the entries, where `old` was before
 abbrev pub AreDoubts : State → Option Record → List Entry → Option Record → Type 0
@@ -57,13 +58,14 @@ AreDoubts s old (e ∷ h) new = (mid : Option Record) × Doubts (effect_at s e) 
 abbrev pub AreStill : List Entry → Type 0
 AreStill h = All (λ e. (s : State) → (effect_at s e).reaches ≡ false) h
 
--- a put has a row for each block and room for its record
+-- a put has a row for each block and room for its record, and so has a head room for its own
 abbrev pub HasPlace : State → ℕ → Call → Type 0
 HasPlace s end (call.Put v pairs) =
     IsPassed s v pairs → (rows_after s pairs ≤ s.config.rows) × (bytes_of (record_of (new_pairs s.hot pairs)) ≤ s.config.limit - 1 - end)
+HasPlace s end (call.SetHead cids) = (height : ℕ) → IsHead s.kept cids height → head_need cids ≤ s.config.limit - 1 - end
 HasPlace s end _ = Unit {0}
 
--- all puts of a history have
+-- all puts and heads of a history have
 abbrev pub HavePlace : State → ℕ → List Entry → Type 0
 HavePlace s end [] = Unit {0}
 HavePlace s end (e ∷ h) = HasPlace s end e.call × HavePlace (After s e.call e.answer) (end_after s end e) h

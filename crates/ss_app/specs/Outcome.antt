@@ -24,6 +24,7 @@ use Rattle.ss_script.specs.declared.line.Line.{Line}
 use Rattle.ss_script.specs.declared.fault.ScriptFault.TheVariants.{Bad}
 use Rattle.ss_script.specs.Script.{script_of}
 use Rattle.ss_script.specs.Text.{text}
+use Rattle.ss_script.specs.Views.{no_views}
 use Rattle.ss_app.specs.declared.TheConstants.{SCRIPT_BYTES}
 use Rattle.ss_app.specs.declared.help.TheConstants.{HELP, VERSION}
 use Rattle.ss_app.specs.declared.words.Command.{Command}
@@ -76,8 +77,8 @@ pub record IsHistory {D : Type 0} (disk : Ghosts D) (was is : D) (h : List Entry
 
 -- Why a run of `trace` that made these calls ends so.
 abbrev pub HasReason : {D : Type 0} → Ghosts D → World D → World D → List Entry → Ending → Type 0
-HasReason disk old new h Done = IsAtEnd new.source.left × (IsTrue disk.told → HasStore (disk.files old.disk 0)) × (lines : List Line) × InOrder [] lines h × ForSome old.source.left (λ script. AsksFor script lines)
-HasReason disk old new h NoMemory = (lines : List Line) × InOrder [] lines h × ForSome old.source.left (λ script. (h ≡ []) ⊎ ((more : List Line) × AsksFor script (lines ++ more)))
+HasReason disk old new h Done = IsAtEnd new.source.left × (IsTrue disk.told → HasStore (disk.files old.disk 0)) × (lines : List Line) × InOrder no_views lines h × ForSome old.source.left (λ script. AsksFor script lines)
+HasReason disk old new h NoMemory = (lines : List Line) × InOrder no_views lines h × ForSome old.source.left (λ script. (h ≡ []) ⊎ ((more : List Line) × AsksFor script (lines ++ more)))
 HasReason disk old new h ReadFault = h ≡ []
 HasReason disk old new h (BadScript line kind) = (h ≡ []) × ForSome old.source.left (λ script. (length script ≤ SCRIPT_BYTES) × (script_of CLIENTS script ≡ Err (Bad line kind)))
 HasReason disk old new h TooLong = (h ≡ []) × IsTooLong old.source.left
@@ -122,7 +123,7 @@ pub record IsValidTrace {D : Type 0} (disk : Ghosts D) (old new : World D) (scri
   pub faults : ¬ Rose (disk.faults old.disk) (disk.faults new.disk)
   pub tells : IsTrue disk.told
   pub stands : HasStore (disk.files old.disk 0)
-  pub place : (s : State) (end : ℕ) (h : List Entry) → HasState (disk.files old.disk 0) end s → InOrder [] lines h → Legal s h → HavePlace s end h
+  pub place : (s : State) (end : ℕ) (h : List Entry) → HasState (disk.files old.disk 0) end s → InOrder no_views lines h → Legal s h → HavePlace s end h
 
 -- the calls of a run of `trace`, what was printed of them, and its ending
 pub record Traced {D : Type 0} (disk : Ghosts D) (old new : World D) (status : ℕ) : Type 0 where
@@ -210,7 +211,7 @@ pub record CallsMade {D : Type 0} (disk : Ghosts D) (was is : D) (lines : List L
   pub ends : (ending ≡ Done) ⊎ (ending ≡ NoMemory)
   pub lines_are : lines ≡ made ++ left
   pub all_made : ending ≡ Done → left ≡ []
-  pub in_order : InOrder [] made history
+  pub in_order : InOrder no_views made history
   pub text_is : text history ≡ printed ++ unprinted
   pub wrote : Appends old.written new.written printed
   pub all_printed : refused ≡ false → ending ≡ Done → unprinted ≡ []

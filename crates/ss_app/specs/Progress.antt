@@ -14,7 +14,7 @@ use Rattle.ss_core.specs.declared.split_core.SplitCore.{SplitCore}
 use Rattle.ss_core.specs.StandsFor.{HasState, StandsFor}
 use Rattle.ss_script.specs.declared.line.Line.{Line}
 use Rattle.ss_script.specs.Text.{text}
-use Rattle.ss_script.specs.Views.{AreViews}
+use Rattle.ss_script.specs.Views.{no_views, after_line}
 use Rattle.ss_app.specs.History.{AreCounted, HasRoomsBy, IsLimit, AreRooms, AreDoubts, AreStill, end_after}
 use Rattle.ss_app.specs.Run.{InOrder}
 use Rattle.ss_app.specs.World.{Output}
@@ -23,6 +23,11 @@ use Rattle.ss_app.specs.World.{Output}
 abbrev pub end_behind : State → ℕ → List Entry → ℕ
 end_behind s end [] = end
 end_behind s end (e ∷ h) = end_behind (After s e.call e.answer) (end_after s end e) h
+
+-- the clients' views after all entries, which are those of the lines
+abbrev pub views_behind : List (List ℕ) → List Line → List Entry → List (List ℕ)
+views_behind views (line ∷ lines) (e ∷ h) = views_behind (after_line views line e.answer) lines h
+views_behind views _ _ = views
 
 -- from a state that the file had, the entries are legal, and the store stands for the state after them
 pub record IsToldStory {D : Type 0} {disk : Ghosts D} (was : D) (core : SplitCore D disk) (h : List Entry) : Type 0 where
@@ -48,7 +53,7 @@ pub record Story {D : Type 0} {disk : Ghosts D} (was : D) (core : SplitCore D di
 -- the entries of these lines, with what is not printed of them
 pub record Trail (h : List Entry) (unprinted : List ℕ) (refused : Bool) (made : List Line) (old new : Output) : Type 0 where
   pub printed : List ℕ
-  pub in_order : InOrder [] made h
+  pub in_order : InOrder no_views made h
   pub text_is : text h ≡ printed ++ unprinted
   pub wrote : Appends old.written new.written printed
   pub sound : refused ≡ false → new.faults ≡ old.faults
@@ -61,7 +66,7 @@ pub record Progress {D : Type 0} {disk : Ghosts D} (was : D) (core : SplitCore D
   pub trail : Trail history unprinted refused made old new
   pub all_printed : refused ≡ false → unprinted ≡ []
   pub story : Story was core history
-  pub views_are : AreViews views history
+  pub views_are : views ≡ views_behind no_views made history
   pub place_is : place ≡ length history
 
 -- a run that stops

@@ -10,7 +10,7 @@ ghost use Rattle.ss_model.specs.State.{State};
 ghost use Rattle.ss_model.specs.declared.call.Entry.{Entry};
 ghost use Rattle.ss_script.specs.declared.line.Line.{Line};
 ghost use Rattle.ss_script.specs.Text.{entry_text};
-ghost use Rattle.ss_script.specs.Views.{AreViews, resolved, views_of};
+ghost use Rattle.ss_script.specs.Views.{client_views, resolved};
 ghost use Rattle.ss_core.specs.Calls.{Steps, Makes};
 ghost use Rattle.ss_core.specs.StandsFor.{StandsFor};
 ghost use Rattle.ss_app.specs.declared.words.Command.TheVariants as command;
@@ -190,10 +190,12 @@ impl<D: Disk> Session<D> {
         ensures step { (was : _) (made : List Line) (old : _) → Progress was self.old.core self.old.views self.old.place self.old.refused made old (output K.Sink sink.old) → Stepped was self.new.core self.new.views self.new.place self.new.refused (made ++ line ∷ []) old (output K.Sink sink.new) result }
         ensures place { self.new.place ≡ self.old.place + 1 }
     {
+        let client = line.client;
+        let closing = line.call.closing_view();
         let entry = make_call(alloc, &mut self.core, &self.views, line);
         self.place += 1;
         self.refused = print(alloc, sink, self.refused, self.place, &entry);
-        self.views.record(&entry)
+        self.views.record(client, closing, &entry.answer)
     }
 
     // What came of the calls that were made.
@@ -218,14 +220,14 @@ impl<D: Disk> Session<D> {
 fn make_call<D: Disk>(alloc: Global, core: &mut SplitCore<D>, views: &Views, line: Line) -> Entry
     ensures client { result.client ≡ line.client }
     ensures line { result.line ≡ line.line }
-    ensures call { (before : List Entry) → AreViews views.now before → result.call ≡ resolved (views_of line.client before) line.call }
+    ensures call { result.call ≡ resolved (client_views views.now line.client) line.call }
     ensures told { IsTrue D.told → (s : State) (doubt : Option Record) → StandsFor core.old s doubt → Steps core.old core.new s doubt result.call result.answer }
     ensures made { Makes core.old core.new result.call result.answer }
 {
     let client = line.client;
     let number = line.line;
     let call = views.resolve(line);
-    let answer = core.call(alloc, &call);
+    let answer = core.answer(alloc, &call);
     Entry {
         client,
         line: number,

@@ -1,10 +1,14 @@
 -- What a get finds.
-use Rattle.std.proofs.Common.{◌≡◌, ℕ, true, false, List, Option, Some, None, refl, sym, ap, subst, ◌∙◌, true≢false, arith}
-use Rattle.std.specs.Prelude.{is_some, if◌then◌else◌, Result, Ok, Err, IfOk, MatchResult}
+use Rattle.std.proofs.Common.{◌≡◌, ◌⊎◌, inl, ⊎_elim, ℕ, ◌≤◌, Bool, true, false, cond, List, length, Option, Some, None, refl, sym, ap, subst, ◌∙◌, true≢false, arith}
+use Rattle.std.specs.Prelude.{◌==◌, is_some, if◌then◌else◌, Result, Ok, Err, IfOk, MatchResult}
 use Rattle.std.specs.FinMap as finite_map
-use Rattle.ss_cid.specs.Cid.{identity_of}
+use Rattle.std.proofs.lemmas.List.{length-drop}
+use Rattle.ss_cid.specs.Cid.{cid_head, part_of, hash_of, digest_of, identity_of}
 use Rattle.ss_model.specs.State.{State, Kept}
-use Rattle.ss_model.specs.Lawful.{LawfulGet, is_open, or_else, fetched}
+use Rattle.ss_chain.specs.Fetch.{fetched}
+use Rattle.ss_chain.specs.Steps.{or_else}
+use Rattle.ss_model.specs.Lawful.{LawfulGet, is_open}
+use Rattle.ss_model.proofs.Kept.{fetched_is as fetched_by}
 use Rattle.ss_disk.specs.declared.disk.Disk.{Ghosts}
 use Rattle.ss_disk.specs.Calls.{Leaves}
 use Rattle.ss_records.specs.declared.record.Record.{Record}
@@ -13,24 +17,35 @@ use Rattle.ss_model.specs.declared.call.Call.TheVariants as call
 use Rattle.ss_model.specs.declared.call.Answer.TheVariants as answer
 use Rattle.ss_core.specs.declared.split_core.SplitCore.{SplitCore}
 use Rattle.ss_core.specs.Calls.{Steps}
-use Rattle.ss_core.specs.Effect.{no_effect, get_effect, effect_of}
+use Rattle.ss_core.specs.Effect.{Effect, Doubts, no_effect, get_effect, effect_of, bytes_of}
 use Rattle.ss_core.specs.StandsFor.{StandsFor, HasEitherState}
-use Rattle.ss_core.proofs.Idle.{IsIdle, idle, unwritten, doubts_none, doubts_same, stands_still}
+use Rattle.ss_core.proofs.Idle.{IsIdle, idle, unwritten, leaves_wider, doubts_none, doubts_same, stands_still}
 use Rattle.ss_model.specs.declared.call.GetReply.{GetReply}
 use Rattle.ss_model.specs.declared.call.GetReply.TheVariants as get
 
 -- an identity CID stands for its digest, of which a copy was made or not
 pub digest_lawful : {E : Type 0} (s : State) (v : ℕ) (c digest : List ℕ) (copy : Result (List ℕ) E) (r : GetReply) → is_open s v ≡ true → Some digest ≡ identity_of c → IfOk copy (λ b. b ≡ digest) → MatchResult copy (λ b. r ≡ get.Found b) (λ _. r ≡ get.NoMemory) → LawfulGet s v c r
-unfolding fetched
 digest_lawful s v c digest (Ok b) r opened id copied is =
-    subst (LawfulGet s v c) (sym is) (opened, ap (λ i. or_else i (finite_map.get s.kept c)) (sym id) ∙ ap Some (sym copied))
+    subst (LawfulGet s v c) (sym is) (opened, fetched_by s.kept c ∙ ap (λ i. or_else i (finite_map.get s.kept c)) (sym id) ∙ ap Some (sym copied))
 digest_lawful s v c digest (Err e) r opened id copied is =
-    subst (LawfulGet s v c) (sym is) (opened, ap (λ i. is_some (or_else i (finite_map.get s.kept c))) (sym id))
+    subst (LawfulGet s v c) (sym is) (opened, ap is_some (fetched_by s.kept c) ∙ ap (λ i. is_some (or_else i (finite_map.get s.kept c))) (sym id))
 
 -- another CID stands for what is kept under it
 pub fetched_is : (kept : Kept) (c : List ℕ) → None ≡ identity_of c → fetched kept c ≡ finite_map.get kept c
-unfolding fetched
-fetched_is kept c none = ap (λ i. or_else i (finite_map.get kept c)) (sym none)
+fetched_is kept c none = fetched_by kept c ∙ ap (λ i. or_else i (finite_map.get kept c)) (sym none)
+
+-- a digest is no longer than its CID
+digest_short : (c : List ℕ) → length (digest_of c) ≤ length c
+unfolding digest_of
+digest_short c = omega (arith, length-drop (part_of (λ head. head.digest_at) (cid_head c)) c)
+
+pub identity_short : (c d : List ℕ) → Some d ≡ identity_of c → length d ≤ length c
+unfolding identity_of
+identity_short c d is = go (hash_of c == 0) is
+  where
+    go : (b : Bool) → Some d ≡ cond b (Some (digest_of c)) None → length d ≤ length c
+    go true e = let same : d ≡ digest_of c = cc (e) in omega (arith, ap (λ (l : List ℕ). length l) same, digest_short c)
+    go false e = absurd (let differ : ⊥ = cc (e) in differ)
 
 -- what is not there is none
 pub none_there : {X : Type 0} (found : Option X) → false ≡ is_some found → found ≡ None
@@ -40,7 +55,7 @@ none_there (Some x) e = absurd (true≢false (sym e))
 -- an answer that does not hang on what is looked up is idle, where it is whatever the CID
 idle_get : (id : Option (List ℕ)) (r : GetReply) → IsIdle (get_effect r) → IsIdle (if is_some id then no_effect else get_effect r)
 idle_get None r is = is
-idle_get (Some d) r is = record { writes = refl; doubts = refl; settles = refl }
+idle_get (Some d) r is = record { writes = refl; doubts = refl; needs = refl; settles = refl }
 
 module _ {D : Type 0} (disk : Ghosts D) (s : State) (doubt : Option Record) (v : ℕ) (c : List ℕ) where
   module _ (old new : SplitCore D disk) (same : new.disk ≡ old.disk) (same_hot : new.hot ≡ old.hot) (viewed : new.views ≡ old.views) (stands : StandsFor old s doubt) where
@@ -48,14 +63,14 @@ module _ {D : Type 0} (disk : Ghosts D) (s : State) (doubt : Option Record) (v :
     after = stands_still disk old new s doubt same same_hot stands viewed
 
     pub bad_view : is_open s v ≡ false → Steps old new s doubt (call.Get v c) (answer.Get get.BadView)
-    bad_view not_open = idle disk old new s doubt (call.Get v c) (answer.Get get.BadView) same same_hot (idle_get (identity_of c) get.BadView (record { writes = refl; doubts = refl; settles = refl })) stands not_open after
+    bad_view not_open = idle disk old new s doubt (call.Get v c) (answer.Get get.BadView) same same_hot (idle_get (identity_of c) get.BadView (record { writes = refl; doubts = refl; needs = refl; settles = refl })) stands not_open after
 
     pub not_found : is_open s v ≡ true → fetched s.kept c ≡ None → Steps old new s doubt (call.Get v c) (answer.Get get.NotFound)
-    not_found opened none = idle disk old new s doubt (call.Get v c) (answer.Get get.NotFound) same same_hot (idle_get (identity_of c) get.NotFound (record { writes = refl; doubts = refl; settles = refl })) stands (opened, none) after
+    not_found opened none = idle disk old new s doubt (call.Get v c) (answer.Get get.NotFound) same same_hot (idle_get (identity_of c) get.NotFound (record { writes = refl; doubts = refl; needs = refl; settles = refl })) stands (opened, none) after
 
     pub own_digest : (digest : List ℕ) (r : GetReply) → Some digest ≡ identity_of c → LawfulGet s v c r → Steps old new s doubt (call.Get v c) (answer.Get r)
     own_digest digest r id lawful =
-        idle disk old new s doubt (call.Get v c) (answer.Get r) same same_hot (subst (λ (i : Option (List ℕ)). IsIdle (if is_some i then no_effect else get_effect r)) id (record { writes = refl; doubts = refl; settles = refl })) stands lawful after
+        idle disk old new s doubt (call.Get v c) (answer.Get r) same same_hot (subst (λ (i : Option (List ℕ)). IsIdle (if is_some i then no_effect else get_effect r)) id (record { writes = refl; doubts = refl; needs = refl; settles = refl })) stands lawful after
 
   -- a block that is not its CID's own is looked up
   module _ (none : None ≡ identity_of c) (old new : SplitCore D disk) (same : SameButDoubt old.hot new.hot) (leaves : Leaves disk old.hot.log.file (HasEitherState s doubt) old.disk new.disk) (opened : is_open s v ≡ true) where
@@ -82,6 +97,31 @@ module _ {D : Type 0} (disk : Ghosts D) (s : State) (doubt : Option Record) (v :
     pub is_wanting : is_some (finite_map.get s.kept c) ≡ true → StandsFor new s None → Steps old new s doubt (call.Get v c) (answer.Get get.NoMemory)
     is_wanting there settled =
         unwritten disk old new s doubt None (call.Get v c) (answer.Get get.NoMemory) (get_effect get.NoMemory) (looked get.NoMemory) refl (omega arith) (doubts_none (get_effect get.NoMemory) doubt refl) (ap (λ (h : Hot). h.log.end) same) leaves (opened, is_there there) settled
+
+-- a block that was found, and of which no second copy was made
+pub found_wanting : {D : Type 0} (disk : Ghosts D) (old new : SplitCore D disk) (s : State) (doubt : Option Record) (v : ℕ) (c block : List ℕ) → Steps old new s doubt (call.Get v c) (answer.Get (get.Found block)) → Steps old new s doubt (call.Get v c) (answer.Get get.NoMemory)
+found_wanting disk old new s doubt v c block step = on (identity_of c) refl
+  where
+    lawful : LawfulGet s v c get.NoMemory
+    lawful = (step.lawful.0, ap is_some step.lawful.1)
+
+    by : (effect other : Effect) → effect_of s (call.Get v c) (answer.Get (get.Found block)) ≡ effect → effect_of s (call.Get v c) (answer.Get get.NoMemory) ≡ other → effect.writes ≡ None → effect.doubts ≡ None → other.writes ≡ None → other.needs ≡ 0 → Doubts other doubt step.now
+        → Steps old new s doubt (call.Get v c) (answer.Get get.NoMemory)
+    by effect other was is writes doubts none needs doubted =
+        unwritten disk old new s doubt step.now (call.Get v c) (answer.Get get.NoMemory) other is none (omega (arith, needs)) doubted
+        (omega (arith, step.end, ap (λ (e : Effect). bytes_of e.writes) was, ap bytes_of writes))
+        (leaves_wider disk old.hot.log.file (λ file. HasEitherState s doubt file ⊎ HasEitherState s (effect_of s (call.Get v c) (answer.Get (get.Found block))).doubts file) (HasEitherState s doubt) old.disk new.disk
+        (λ bytes has. ⊎_elim (λ own. own) (λ other. ⊎_elim (λ here. inl here) (λ here. inl here) (subst (λ (r : Option Record). HasEitherState s r bytes) (ap (λ (e : Effect). e.doubts) was ∙ doubts) other)) has) step.stops)
+        lawful step.after
+
+    on : (id : Option (List ℕ)) → identity_of c ≡ id → Steps old new s doubt (call.Get v c) (answer.Get get.NoMemory)
+    on (Some d) id =
+        let was : effect_of s (call.Get v c) (answer.Get (get.Found block)) ≡ no_effect = ap (λ i. if is_some i then no_effect else get_effect (get.Found block)) id in
+        by no_effect no_effect was (ap (λ i. if is_some i then no_effect else get_effect get.NoMemory) id) refl refl refl refl (subst (λ (e : Effect). Doubts e doubt step.now) was step.doubts)
+    on None id =
+        let was : effect_of s (call.Get v c) (answer.Get (get.Found block)) ≡ get_effect (get.Found block) = ap (λ i. if is_some i then no_effect else get_effect (get.Found block)) id in
+        by (get_effect (get.Found block)) (get_effect get.NoMemory) was (ap (λ i. if is_some i then no_effect else get_effect get.NoMemory) id) refl refl refl refl
+        (record { settled = λ no. absurd (true≢false (sym no)); still = λ no. absurd (true≢false no); one_of = inl ((subst (λ (e : Effect). Doubts e doubt step.now) was step.doubts).settled refl) })
 
 -- what is not read is there
 pub held_by_error : {X T E : Type 0} {e : E} {ok : T} (found : Option X) → (found ≡ None → ◌≡◌ {A = Result T E} (Err e) (Ok ok)) → is_some found ≡ true

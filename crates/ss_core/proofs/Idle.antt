@@ -34,7 +34,7 @@ pub doubts_same : (effect : Effect) (doubt : Option Record) → effect.settles �
 doubts_same effect doubt settles = record { settled = λ is. absurd (true≢false (sym is ∙ settles)); still = λ _. refl; one_of = inr (inl refl) }
 
 -- the step of a call of this effect that wrote no record
-pub unwritten : {D : Type 0} (disk : Ghosts D) (old new : SplitCore D disk) (s : State) (doubt now : Option Record) (call : Call) (answer : Answer) (effect : Effect) → effect_of s call answer ≡ effect → effect.writes ≡ None → bytes_of effect.doubts ≤ room_of old.hot
+pub unwritten : {D : Type 0} (disk : Ghosts D) (old new : SplitCore D disk) (s : State) (doubt now : Option Record) (call : Call) (answer : Answer) (effect : Effect) → effect_of s call answer ≡ effect → effect.writes ≡ None → effect.needs ≤ room_of old.hot
     → Doubts effect doubt now → new.hot.log.end ≡ old.hot.log.end → Leaves disk old.hot.log.file (HasEitherState s doubt) old.disk new.disk → Lawful s call answer → StandsFor new (After s call answer) now → Steps old new s doubt call answer
 unwritten disk old new s doubt now call answer effect is writes room doubts end leaves lawful after = record {
   lawful = lawful;
@@ -42,7 +42,7 @@ unwritten disk old new s doubt now call answer effect is writes room doubts end 
   doubts = subst (λ (e : Effect). Doubts e doubt now) (sym is) doubts;
   after = after;
   end = omega (arith, end, ap (λ (e : Effect). bytes_of e.writes) is, ap bytes_of writes);
-  roomy = omega (arith, ap (λ (e : Effect). bytes_of e.writes) is, ap bytes_of writes, ap (λ (e : Effect). bytes_of e.doubts) is, room);
+  roomy = omega (arith, ap (λ (e : Effect). e.needs) is, room);
   stops = leaves_wider disk old.hot.log.file (HasEitherState s doubt) _ old.disk new.disk (λ bytes has. inl has) leaves;
 }
 
@@ -50,13 +50,14 @@ unwritten disk old new s doubt now call answer effect is writes room doubts end 
 pub record IsIdle (effect : Effect) : Type 0 where
   pub writes : effect.writes ≡ None
   pub doubts : effect.doubts ≡ None
+  pub needs : effect.needs ≡ 0
   pub settles : effect.settles ≡ false
 
 -- the step of such a call, which left disk and hot store as they were
 pub idle : {D : Type 0} (disk : Ghosts D) (old new : SplitCore D disk) (s : State) (doubt : Option Record) (call : Call) (answer : Answer) → new.disk ≡ old.disk → new.hot ≡ old.hot → IsIdle (effect_of s call answer)
     → StandsFor old s doubt → Lawful s call answer → StandsFor new (After s call answer) doubt → Steps old new s doubt call answer
 idle disk old new s doubt call answer same same_hot is_idle stands lawful after =
-    unwritten disk old new s doubt doubt call answer (effect_of s call answer) refl is_idle.writes (omega (arith, ap bytes_of is_idle.doubts)) (doubts_same (effect_of s call answer) doubt is_idle.settles) (ap (λ (h : Hot). h.log.end) same_hot)
+    unwritten disk old new s doubt doubt call answer (effect_of s call answer) refl is_idle.writes (omega (arith, is_idle.needs)) (doubts_same (effect_of s call answer) doubt is_idle.settles) (ap (λ (h : Hot). h.log.end) same_hot)
     (subst (λ now. Leaves disk old.hot.log.file (HasEitherState s doubt) old.disk now) (sym same) (leaves_none disk old.hot.log.file (HasEitherState s doubt) old.disk (image_state disk old s doubt stands)))
     lawful after
 

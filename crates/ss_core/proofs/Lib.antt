@@ -1,7 +1,11 @@
 mod Faults
 mod Gets
+mod HeadSteps
+mod HotCount
+mod Asked
 pub mod Idle
 pub mod Images
+mod Judging
 mod Made
 mod Marked
 mod NewPairs
@@ -9,6 +13,7 @@ mod PutBytes
 mod PutSteps
 mod Puts
 mod Refusals
+mod Repeats
 pub mod Reopened
 pub mod Settling
 mod Stops

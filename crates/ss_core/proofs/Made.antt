@@ -1,9 +1,10 @@
 -- What a call does over any disk, where it may have called it.
-use Rattle.std.proofs.Common.{◌≡◌, ◌⊎◌, inl, inr, ℕ, true, false, List, None, refl, sym, ap, ◌∙◌, arith}
-use Rattle.std.specs.Prelude.{is_some, if◌then◌else◌, Result, Ok, Err}
+use Rattle.std.proofs.Common.{◌≡◌, ◌⊎◌, inl, inr, ℕ, true, false, List, Option, None, Some, refl, sym, ap, subst, ◌∙◌, arith}
+use Rattle.std.specs.Prelude.{is_some, if◌then◌else◌, Result, Ok, Err, MatchResult}
 use Rattle.ss_disk.specs.declared.disk.Disk.{Ghosts}
-use Rattle.ss_disk.specs.Disk.{Rose}
-use Rattle.ss_disk.specs.Calls.{Touches}
+use Rattle.ss_disk.specs.Disk.{Same, Rose}
+use Rattle.ss_disk.specs.Calls.{Goes, Touches}
+use Rattle.ss_disk.proofs.Goes.{stays, touches_none}
 use Rattle.ss_cid.specs.Cid.{identity_of}
 use Rattle.ss_model.specs.State.{empty_state}
 use Rattle.ss_model.specs.declared.call.Call.TheVariants as call
@@ -15,7 +16,7 @@ use Rattle.ss_core.specs.declared.split_core.SplitCore.{SplitCore}
 use Rattle.ss_core.specs.Calls.{Makes}
 use Rattle.ss_core.specs.Effect.{Effect, no_effect, get_effect}
 
-never : {X : Type 0} → false ≡ true → X
+pub never : {X : Type 0} → false ≡ true → X
 never wrong = absurd (let differ : ⊥ = cc (wrong) in differ)
 
 -- where no fault is answered none was counted
@@ -68,7 +69,7 @@ module _ {D : Type 0} (disk : Ghosts D) (old new : SplitCore D disk) (settings :
       touches = touches;
     }
 
-    pub get_wanting : disk.faults new.disk ≡ disk.faults old.disk → (old.hot.log.unsure ≡ false → new.disk ≡ old.disk) → Makes old new (call.Get v c) (answer.Get get.NoMemory)
+    pub get_wanting : disk.faults new.disk ≡ disk.faults old.disk → (old.hot.log.unsure ≡ false → Goes disk Same old.disk new.disk) → Makes old new (call.Get v c) (answer.Get get.NoMemory)
     get_wanting kept same = record {
       fault = λ wrong. never wrong;
       no_fault = inr kept;
@@ -80,3 +81,61 @@ module _ {D : Type 0} (disk : Ghosts D) (old new : SplitCore D disk) (settings :
       file = file;
       touches = touches;
     }
+
+-- a disk that was not called
+pub same_disk : {D : Type 0} (disk : Ghosts D) (old new : D) → new ≡ old → Goes disk Same old new
+same_disk disk old new same = subst (λ now. Goes disk Same old now) (sym same) (stays disk old Same (λ files. refl))
+
+-- over any disk an identity CID's block, or want of memory for it, does nothing
+pub digest_makes : {D E : Type 0} (disk : Ghosts D) (core : SplitCore D disk) (v : ℕ) (c digest : List ℕ) (r : GetReply) (copy : Result (List ℕ) E) → Some digest ≡ identity_of c → MatchResult copy (λ b. r ≡ get.Found b) (λ _. r ≡ get.NoMemory) → Makes core core (call.Get v c) (answer.Get r)
+digest_makes {E = E} disk core v c digest r copy id is = on copy is
+  where
+    quiet : (r : GetReply) → (id : Option (List ℕ)) → Some digest ≡ id → (if is_some id then no_effect else get_effect r) ≡ no_effect
+    quiet r (Some d) e = refl
+    quiet r None e = absurd (let differ : ⊥ = cc (e) in differ)
+
+    on : (copy : Result (List ℕ) E) → MatchResult copy (λ b. r ≡ get.Found b) (λ _. r ≡ get.NoMemory) → Makes core core (call.Get v c) (answer.Get r)
+    on (Ok b) is = subst (λ r. Makes core core (call.Get v c) (answer.Get r)) (sym is) (record {
+      fault = λ wrong. never wrong;
+      no_fault = inr refl;
+      full = tt;
+      memory = λ wrong. never wrong;
+      still = λ _. refl;
+      settled = λ s wrong. never (sym (ap (λ (e : Effect). e.settles) (quiet (get.Found b) (identity_of c) id)) ∙ wrong);
+      settings = refl;
+      file = refl;
+      touches = touches_none disk core.hot.log.file core.disk;
+    })
+    on (Err e) is = subst (λ r. Makes core core (call.Get v c) (answer.Get r)) (sym is) (record {
+      fault = λ wrong. never wrong;
+      no_fault = inr refl;
+      full = tt;
+      memory = λ _ _. same_disk disk core.disk core.disk refl;
+      still = λ _. refl;
+      settled = λ s wrong. never (sym (ap (λ (e : Effect). e.settles) (quiet get.NoMemory (identity_of c) id)) ∙ wrong);
+      settings = refl;
+      file = refl;
+      touches = touches_none disk core.hot.log.file core.disk;
+    })
+
+-- a block that was found, and of which no second copy was made
+pub found_wanting : {D : Type 0} (disk : Ghosts D) (old new : SplitCore D disk) (v : ℕ) (c block : List ℕ) → (old.hot.log.unsure ≡ false → Goes disk Same old.disk new.disk) → Makes old new (call.Get v c) (answer.Get (get.Found block)) → Makes old new (call.Get v c) (answer.Get get.NoMemory)
+found_wanting disk old new v c block reads made = record {
+  fault = λ wrong. never wrong;
+  no_fault = made.no_fault;
+  full = tt;
+  memory = λ _ sure. reads sure;
+  still = λ not. made.still (λ s. by (identity_of c) (not s));
+  settled = λ s wrong. by' (identity_of c) wrong;
+  settings = made.settings;
+  file = made.file;
+  touches = made.touches;
+}
+  where
+    by : (id : Option (List ℕ)) → (if is_some id then no_effect else get_effect get.NoMemory).reaches ≡ false → (if is_some id then no_effect else get_effect (get.Found block)).reaches ≡ false
+    by (Some d) is = refl
+    by None is = never (sym is)
+
+    by' : (id : Option (List ℕ)) → (if is_some id then no_effect else get_effect get.NoMemory).settles ≡ true → new.hot.log.unsure ≡ false
+    by' (Some d) wrong = never wrong
+    by' None wrong = never wrong

@@ -1,11 +1,12 @@
 -- The marks of a set of numbers.
-use Rattle.std.proofs.Common.{◌≡◌, ◌≢◌, ℕ, zero, suc, ◌<◌, ◌≤◌, ◌+◌, Bool, true, false, List, [], ◌∷◌, length, refl, sym, ap, ◌∙◌, ◌||◌, nat_lt, true≢false, arith}
+use Rattle.std.proofs.Common.{◌≡◌, ◌≢◌, ℕ, zero, suc, ◌<◌, ◌≤◌, ◌+◌, Bool, true, false, List, [], ◌∷◌, length, refl, sym, ap, ◌∙◌, ◌||◌, nat_lt, true≢false, add-one, arith}
 use Rattle.std.specs.Ordering.{nat_cmp, eq_by_cmp}
 use Rattle.std.specs.Cmp.{nat_cmp_total}
 use Rattle.std.specs.FinSet as set
 use Rattle.std.specs.FinSet.{contains-insert, contains-empty, contains-remove, same_set, nat_cmp-IsAntisymmetric}
 use Rattle.std.proofs.lemmas.Bool.Decides.{nat_tests}
-use Rattle.std.proofs.Math.ListN.{get_or}
+use Rattle.std.proofs.Math.ListN.{get_or, drop, drop_of_length-le}
+use Rattle.std.proofs.Math.Seq.{drop-cons}
 use Rattle.std.proofs.lemmas.List.{get_or-set_same, get_or-set_other, get_or_past}
 use Rattle.std.proofs.lemmas.List.Sums.{fails_before_first}
 use Rattle.std.proofs.lemmas.List.Quantifiers.{position-Some}
@@ -117,3 +118,27 @@ pub first_missing : (marks : List Bool) (view : ℕ) → Some view ≡ position 
 first_missing marks view is =
     let found = position-Some (λ o. not o) marks view false (sym is) in
     (found.0, contains_marked marks view ∙ not_true _ found.1, λ n below. contains_marked marks n ∙ not_false _ (found.2 n below))
+
+-- how many are marked, one place further
+count_next : (marks : List Bool) (i : ℕ) (mark : Bool) → i < length marks → get_or marks i false ≡ mark → set.len (marked_from i (drop i marks)) ≡ cond mark 1 0 + set.len (marked_from (suc i) (drop (suc i) marks))
+count_next marks i mark within is = ap (λ (l : List Bool). set.len (marked_from i l)) (drop-cons marks i false within) ∙ by (get_or marks i false) mark is
+  where
+    by : (there mark : Bool) → there ≡ mark → set.len (marked_from i (there ∷ drop (suc i) marks)) ≡ cond mark 1 0 + set.len (marked_from (suc i) (drop (suc i) marks))
+    by true true e =
+        set.len-insert nat_cmp_total (marked_from (suc i) (drop (suc i) marks)) i ∙ ap (λ b. cond b (set.len (marked_from (suc i) (drop (suc i) marks))) (set.len (marked_from (suc i) (drop (suc i) marks)) + 1)) (below_none (suc i) (drop (suc i) marks) i (omega arith)) ∙ omega arith
+    by false false e = omega arith
+    by true false e = absurd (true≢false e)
+    by false true e = absurd (true≢false (sym e))
+
+one_or_none : (mark : Bool) → cond mark 1 0 ≤ 1
+one_or_none true = omega arith
+one_or_none false = omega arith
+
+pub counted_next : (marks : List Bool) (i count more : ℕ) → i < length marks → more ≡ cond (get_or marks i false) 1 0 → count + set.len (marked_from i (drop i marks)) ≡ set.len (marked_from 0 marks) → count + more + set.len (marked_from (i + 1) (drop (i + 1) marks)) ≡ set.len (marked_from 0 marks)
+counted_next marks i count more within is before = rw (add-one) (omega (arith, is, before, count_next marks i (get_or marks i false) within refl))
+
+pub counted_few : (marks : List Bool) (i count more : ℕ) → more ≡ cond (get_or marks i false) 1 0 → count ≤ i → count + more ≤ i + 1
+counted_few marks i count more is few = omega (arith, is, few, one_or_none (get_or marks i false))
+
+pub counted_all : (marks : List Bool) (i count : ℕ) → length marks ≤ i → count + set.len (marked_from i (drop i marks)) ≡ set.len (marked_from 0 marks) → count ≡ set.len (marked_from 0 marks)
+counted_all marks i count past before = omega (arith, before, ap (λ (l : List Bool). set.len (marked_from i l)) (drop_of_length-le marks past), set.len-empty nat_cmp)

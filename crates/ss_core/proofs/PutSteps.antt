@@ -92,7 +92,7 @@ left_none settings records s pairs state is = record {
 
 module _ {D : Type 0} (disk : Ghosts D) (core : SplitCore D disk) (s : State) (doubt : Option Record) (stands : StandsFor core s doubt) where
   -- as many blocks are kept
-  count_is : finite_map.len core.hot.places ≡ finite_map.len s.kept
+  pub count_is : finite_map.len core.hot.places ≡ finite_map.len s.kept
   count_is = ap finite_map.len stands.keeps.tells.places ∙ places_len core.hot.log.file stands.records ∙ ap finite_map.len (sym stands.state.kept)
 
   -- those that are held
@@ -144,16 +144,16 @@ module _ {D : Type 0} (disk : Ghosts D) (s : State) (doubt : Option Record) (v :
   module _ (core : SplitCore D disk) (stands : StandsFor core s doubt) where
     pub table_is_full : (rows : ℕ) → rows ≡ finite_map.len core.hot.places + length fresh → core.hot.settings.rows < rows → Steps core core s doubt (call.Put v pairs) (answer.Put (put.TableFull rows))
     table_is_full rows rows_is many =
-        idle disk core core s doubt (call.Put v pairs) (answer.Put (put.TableFull rows)) refl refl (record { writes = refl; doubts = refl; settles = refl }) stands
+        idle disk core core s doubt (call.Put v pairs) (answer.Put (put.TableFull rows)) refl refl (record { writes = refl; doubts = refl; needs = refl; settles = refl }) stands
         (passed, rows_is ∙ sym (rows_are disk core s doubt stands pairs fresh is), omega (arith, many, ap (λ (c : Settings). c.rows) stands.state.config)) stands
 
     pub log_is_full : (file need room : ℕ) → 1 ≤ length fresh → finite_map.len core.hot.places + length fresh ≤ core.hot.settings.rows → file ≡ 0 → need ≡ 5 + body_bytes fresh → room < need → Steps core core s doubt (call.Put v pairs) (answer.Put (put.LogFull file need room))
     log_is_full file need room some few hot need_is full =
-        idle disk core core s doubt (call.Put v pairs) (answer.Put (put.LogFull file need room)) refl refl (record { writes = refl; doubts = refl; settles = refl }) stands
+        idle disk core core s doubt (call.Put v pairs) (answer.Put (put.LogFull file need room)) refl refl (record { writes = refl; doubts = refl; needs = refl; settles = refl }) stands
         (admitted disk core s doubt stands pairs fresh is v passed few, hot, (λ none. not_none fresh some (sym is ∙ none)), need_is ∙ ap pairs_need (sym is), full) stands
 
     pub no_memory : Steps core core s doubt (call.Put v pairs) (answer.Put put.NoMemory)
-    no_memory = idle disk core core s doubt (call.Put v pairs) (answer.Put put.NoMemory) refl refl (record { writes = refl; doubts = refl; settles = refl }) stands passed stands
+    no_memory = idle disk core core s doubt (call.Put v pairs) (answer.Put put.NoMemory) refl refl (record { writes = refl; doubts = refl; needs = refl; settles = refl }) stands passed stands
 
   -- the log was asked to be settled, and nothing was written
   module _ (old new : SplitCore D disk) (stands : StandsFor old s doubt) (same : SameButDoubt old.hot new.hot) (leaves : Leaves disk old.hot.log.file (HasEitherState s doubt) old.disk new.disk) where
@@ -169,7 +169,7 @@ module _ {D : Type 0} (disk : Ghosts D) (s : State) (doubt : Option Record) (v :
 
     pub none_stored : fresh ≡ [] → StandsFor new s None → Steps old new s doubt (call.Put v pairs) (answer.Put (put.Stored 0))
     none_stored none after =
-        unwritten disk old new s doubt None (call.Put v pairs) (answer.Put (put.Stored 0)) (put_effect (new_pairs s.hot pairs) (put.Stored 0)) refl (ap record_of (is ∙ none)) (omega arith)
+        unwritten disk old new s doubt None (call.Put v pairs) (answer.Put (put.Stored 0)) (put_effect (new_pairs s.hot pairs) (put.Stored 0)) refl (ap record_of (is ∙ none)) (omega (arith, ap (λ (ps : List (List ℕ × List ℕ)). bytes_of (record_of ps)) (is ∙ none)))
         (doubts_none (put_effect (new_pairs s.hot pairs) (put.Stored 0)) doubt refl) (ap (λ (h : Hot). h.log.end) same) leaves (
           admitted disk old s doubt stands pairs fresh is v passed (omega (arith, ap (λ (ps : List (List ℕ × List ℕ)). length ps) none, count_is disk old s doubt stands, stands.state.rows, ap (λ (c : Settings). c.rows) stands.state.config)),
           omega (arith, rows_are disk old s doubt stands pairs fresh is, count_is disk old s doubt stands, ap (λ (ps : List (List ℕ × List ℕ)). length ps) none),

@@ -15,7 +15,9 @@ use Rattle.ss_records.specs.Record.{BlockFits}
 use Rattle.ss_store.specs.Index.{CidMap, with_pairs}
 use Rattle.ss_store.specs.declared.place.Place.{Place}
 use Rattle.ss_model.specs.State.{Kept, CidSet}
-use Rattle.ss_model.specs.Lawful.{or_else, fetched, with_block, with_blocks, with_hot_cid, with_hot, is_left_out, new_pairs, body_bytes, put_bytes, written_bytes, pair_bytes, AreSound}
+use Rattle.ss_model.specs.Lawful.{is_known, with_block, with_blocks, with_hot_cid, with_hot, is_left_out, new_pairs, body_bytes, put_bytes, written_bytes, pair_bytes, AreSound}
+use Rattle.ss_chain.specs.Steps.{or_else}
+use Rattle.ss_model.proofs.Kept.{known_is}
 use Rattle.ss_core.specs.Fresh.{cids_of}
 
 -- exactly the kept blocks are hot
@@ -35,9 +37,9 @@ abbrev pub picked : CidSet → List ℕ × List ℕ → List (List ℕ × List �
 picked h p pairs out = cond out (new_pairs h pairs) (p ∷ new_pairs (finite_set.insert h p.0) pairs)
 
 -- a pair is left out just where its CID stands for a block
-left_out : (kept : Kept) (hot : CidSet) (c : List ℕ) → AreAlike kept hot → is_left_out hot c ≡ is_some (fetched kept c)
-unfolding is_left_out fetched
-left_out kept hot c alike = go (identity_of c)
+left_out : (kept : Kept) (hot : CidSet) (c : List ℕ) → AreAlike kept hot → is_left_out hot c ≡ is_known kept c
+unfolding is_left_out
+left_out kept hot c alike = go (identity_of c) ∙ sym (known_is kept c)
   where
     go : (id : Option (List ℕ)) → (is_some id || finite_set.contains hot c) ≡ is_some (or_else id (finite_map.get kept c))
     go (Some d) = refl
@@ -57,15 +59,16 @@ unfolding with_block
 kept_more kept hot [] alike = refl
 kept_more kept hot (p ∷ pairs) alike =
     ap (λ out. with_pairs kept (picked hot p pairs out)) (left_out kept hot p.0 alike)
-    ∙ elim (is_some (fetched kept p.0)) as (λ out. with_pairs kept (picked hot p pairs out) ≡ with_blocks (cond out kept (finite_map.insert kept p.0 p.1)) pairs) [
+    ∙ elim (is_known kept p.0) as (λ out. with_pairs kept (picked hot p pairs out) ≡ with_blocks (cond out kept (finite_map.insert kept p.0 p.1)) pairs) [
       | true ↦ kept_more kept hot pairs alike
       | false ↦ kept_more (finite_map.insert kept p.0 p.1) (finite_set.insert hot p.0) pairs (both_insert kept hot p alike)
     ]
 
 -- a block joins, and exactly the kept blocks are hot still
 block_more : (kept : Kept) (hot : CidSet) (p : List ℕ × List ℕ) → AreAlike kept hot → AreAlike (with_block kept p) (with_hot_cid hot p.0)
-unfolding with_block with_hot_cid fetched
-block_more kept hot p alike = by_identity (identity_of p.0)
+unfolding with_block with_hot_cid
+block_more kept hot p alike =
+    subst (λ known. AreAlike (cond known kept (finite_map.insert kept p.0 p.1)) (cond (is_some (identity_of p.0)) hot (finite_set.insert hot p.0))) (sym (known_is kept p.0)) (by_identity (identity_of p.0))
   where
     again : (c : List ℕ) (same : Bool) → eq_by_cmp (slice_cmp nat_cmp) c p.0 ≡ same → is_some (finite_map.get kept p.0) ≡ true → (same || finite_set.contains hot c) ≡ is_some (finite_map.get kept c)
     again c true e known = sym (subst (λ k. is_some (finite_map.get kept k) ≡ true) (sym (slice_cmp-IsAntisymmetric nat_cmp-IsAntisymmetric c p.0 ((Equal-is (slice_cmp nat_cmp c p.0)).0 e))) known)
@@ -90,16 +93,16 @@ none_kept (Some d) kept e = absurd (true≢false e)
 none_kept None kept e = e
 
 -- a block under a CID that none is kept under is one more
-one_more : (kept : Kept) (p : List ℕ × List ℕ) → is_some (or_else (identity_of p.0) (finite_map.get kept p.0)) ≡ false → finite_map.len (finite_map.insert kept p.0 p.1) ≡ finite_map.len kept + 1
+one_more : (kept : Kept) (p : List ℕ × List ℕ) → is_known kept p.0 ≡ false → finite_map.len (finite_map.insert kept p.0 p.1) ≡ finite_map.len kept + 1
 one_more kept p new =
-    len-insert nat_list_cmp_total kept p.0 p.1 ∙ ap (λ b. cond b (finite_map.len kept) (finite_map.len kept + 1)) (none_kept (identity_of p.0) (finite_map.get kept p.0) new)
+    len-insert nat_list_cmp_total kept p.0 p.1 ∙ ap (λ b. cond b (finite_map.len kept) (finite_map.len kept + 1)) (none_kept (identity_of p.0) (finite_map.get kept p.0) (sym (known_is kept p.0) ∙ new))
 
 -- as many CIDs more are kept as blocks are new
 pub rows_more : (kept : Kept) (hot : CidSet) (pairs : List (List ℕ × List ℕ)) → AreAlike kept hot → finite_map.len (with_blocks kept pairs) ≡ finite_map.len kept + length (new_pairs hot pairs)
-unfolding with_block fetched
+unfolding with_block
 rows_more kept hot [] alike = omega arith
 rows_more kept hot (p ∷ pairs) alike =
-    elim (is_some (or_else (identity_of p.0) (finite_map.get kept p.0))) as (λ out. is_some (or_else (identity_of p.0) (finite_map.get kept p.0)) ≡ out → finite_map.len (with_blocks (cond out kept (finite_map.insert kept p.0 p.1)) pairs) ≡ finite_map.len kept + length (picked hot p pairs out)) [
+    elim (is_known kept p.0) as (λ out. is_known kept p.0 ≡ out → finite_map.len (with_blocks (cond out kept (finite_map.insert kept p.0 p.1)) pairs) ≡ finite_map.len kept + length (picked hot p pairs out)) [
       | true ↦ λ known. rows_more kept hot pairs alike
       | false ↦ λ new. omega (arith, one_more kept p new, rows_more (finite_map.insert kept p.0 p.1) (finite_set.insert hot p.0) pairs (both_insert kept hot p alike))
     ] refl

@@ -15,7 +15,7 @@ use Rattle.ss_core.specs.StandsFor.{StandsFor}
 use Rattle.ss_core.proofs.Idle.{IsIdle, idle}
 
 none : IsIdle no_effect
-none = record { writes = refl; doubts = refl; settles = refl }
+none = record { writes = refl; doubts = refl; needs = refl; settles = refl }
 
 -- its step leaves all as it was
 module _ {D : Type 0} (disk : Ghosts D) (core : SplitCore D disk) (s : State) (doubt : Option Record) (v : ℕ) (pairs : List (List ℕ × List ℕ)) (stands : StandsFor core s doubt) where

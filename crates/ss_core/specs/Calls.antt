@@ -1,8 +1,8 @@
 -- What a call of a store does: to the state that it stands for, and over any disk.
 use Rattle.std.specs.Prelude.{◌≡◌, ◌⊎◌, ℕ, ◌+◌, ◌≤◌, true, false, Option, IsTrue}
 use Rattle.ss_disk.specs.declared.disk.Disk.{Ghosts}
-use Rattle.ss_disk.specs.Disk.{Rose}
-use Rattle.ss_disk.specs.Calls.{Touches, Leaves}
+use Rattle.ss_disk.specs.Disk.{Same, Rose}
+use Rattle.ss_disk.specs.Calls.{Goes, Touches, Leaves}
 use Rattle.ss_records.specs.declared.record.Record.{Record}
 use Rattle.ss_hot.specs.Store.{room_of}
 use Rattle.ss_model.specs.State.{State}
@@ -11,6 +11,7 @@ use Rattle.ss_model.specs.declared.call.Call.{Call}
 use Rattle.ss_model.specs.declared.call.Answer.{Answer}
 use Rattle.ss_model.specs.declared.call.Answer.TheVariants as answer
 use Rattle.ss_model.specs.declared.call.PutReply.TheVariants as put
+use Rattle.ss_model.specs.declared.call.HeadReply.TheVariants as head
 use Rattle.ss_core.specs.declared.split_core.SplitCore.{SplitCore}
 use Rattle.ss_core.specs.Effect.{effect_of, bytes_of, Doubts}
 use Rattle.ss_core.specs.StandsFor.{StandsFor, HasEitherState}
@@ -24,13 +25,20 @@ pub record Steps {D : Type 0} {disk : Ghosts D} (old new : SplitCore D disk) (s 
   pub doubts : Doubts (effect_of s call answer) doubt now
   pub after : StandsFor new (After s call answer) now
   pub end : new.hot.log.end ≡ old.hot.log.end + bytes_of (effect_of s call answer).writes
-  pub roomy : bytes_of (effect_of s call answer).writes + bytes_of (effect_of s call answer).doubts ≤ room_of old.hot
+  pub roomy : (effect_of s call answer).needs ≤ room_of old.hot
   pub stops : Leaves disk old.hot.log.file (λ file. HasEitherState s doubt file ⊎ HasEitherState (After s call answer) (effect_of s call answer).doubts file) old.disk new.disk
 
 -- the numbers of a full log satisfy P
 abbrev pub OfFullLog : (ℕ → ℕ → ℕ → Type 0) → Answer → Type 0
 OfFullLog P (answer.Put (put.LogFull file need room)) = P file need room
+OfFullLog P (answer.Head (head.LogFull file need room)) = P file need room
 OfFullLog P _ = Unit {0}
+
+-- what no memory leaves: a put called the disk for nothing, and a get and a head for reads alone
+abbrev pub IsUnwritten : {D : Type 0} → Ghosts D → Answer → D → D → Type 0
+IsUnwritten disk (answer.Get r) old new = Goes disk Same old new
+IsUnwritten disk (answer.Head r) old new = Goes disk Same old new
+IsUnwritten disk _ old new = new ≡ old
 
 -- What a call does over any disk: a fault that the disk counted is answered as one, and nothing else is; a full log has just the
 -- room that was left; out of memory leaves each file as it was where no record was in doubt.
@@ -38,7 +46,7 @@ pub record Makes {D : Type 0} {disk : Ghosts D} (old new : SplitCore D disk) (ca
   pub fault : IsTrue (is_disk_fault answer) → Rose (disk.faults old.disk) (disk.faults new.disk)
   pub no_fault : IsTrue (is_disk_fault answer) ⊎ (disk.faults new.disk ≡ disk.faults old.disk)
   pub full : OfFullLog (λ file need room. (file ≡ old.hot.log.file) × (room ≡ room_of old.hot)) answer
-  pub memory : IsTrue (is_no_memory answer) → old.hot.log.unsure ≡ false → new.disk ≡ old.disk
+  pub memory : IsTrue (is_no_memory answer) → old.hot.log.unsure ≡ false → IsUnwritten disk answer old.disk new.disk
   pub still : ((s : State) → (effect_of s call answer).reaches ≡ false) → new.disk ≡ old.disk
   pub settled : (s : State) → (effect_of s call answer).settles ≡ true → new.hot.log.unsure ≡ false
   pub settings : new.hot.settings ≡ old.hot.settings

@@ -3,6 +3,7 @@ pub mod Calls
 pub mod Effect
 pub mod Fault
 pub mod Fresh
+pub mod Heads
 pub mod Puts
 pub mod StandsFor
 pub mod Views

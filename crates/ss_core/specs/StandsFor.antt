@@ -6,7 +6,7 @@ use Rattle.ss_disk.specs.declared.disk.Disk.{Ghosts}
 use Rattle.ss_gatelog.specs.Log.{spelled}
 use Rattle.ss_records.specs.declared.record.Config.{Config as Settings}
 use Rattle.ss_records.specs.declared.record.Record.{Record}
-use Rattle.ss_records.specs.declared.record.Record.TheVariants.{Put}
+use Rattle.ss_records.specs.declared.record.Record.TheVariants.{Put, Head}
 use Rattle.ss_store.specs.Append.{bodies}
 use Rattle.ss_hot.specs.Half.{AreInPlace, settings_of, hot_blocks, head_of, base_of}
 use Rattle.ss_hot.specs.File.{IsHalf}
@@ -58,6 +58,7 @@ with_doubt records (Some r) = records ++ r ∷ []
 abbrev pub state_with : State → Option Record → State
 state_with s None = s
 state_with s (Some (Put pairs)) = after_put s pairs (put.Stored 0)
+state_with s (Some (Head height cids)) = record s { head = Some (height, cids) }
 state_with s (Some _) = s
 
 -- A store stands for this state, where this record is in doubt: each image now has its records, or where one is in doubt, those

@@ -1,9 +1,9 @@
 //! How the fault of a store is answered.
 
 ghost use Rattle.std.specs.Prelude.{◌≡◌};
-ghost use Rattle.ss_core.specs.Fault.{IsStop, put_fault, get_fault};
+ghost use Rattle.ss_core.specs.Fault.{IsStop, put_fault, get_fault, head_fault};
 
-use ss_model::{GetReply, PutReply};
+use ss_model::{GetReply, HeadReply, PutReply};
 use ss_store::StoreFault;
 
 /// The answer to a put.
@@ -26,6 +26,18 @@ pub(crate) fn get_fault(fault: StoreFault) -> GetReply
     match fault {
         StoreFault::NoMemory => GetReply::NoMemory,
         StoreFault::DiskFault => GetReply::DiskFault,
+        StoreFault::LogFull { .. } | StoreFault::Damaged { .. } => unreachable!(),
+    }
+}
+
+/// The answer to a head.
+pub(crate) fn head_fault(fault: StoreFault) -> HeadReply
+    requires { IsStop fault }
+    ensures { result ≡ head_fault fault }
+{
+    match fault {
+        StoreFault::NoMemory => HeadReply::NoMemory,
+        StoreFault::DiskFault => HeadReply::DiskFault,
         StoreFault::LogFull { .. } | StoreFault::Damaged { .. } => unreachable!(),
     }
 }

@@ -20,6 +20,7 @@ mod fault;
 mod fresh;
 pub mod laws;
 mod split_core;
+mod tipset;
 mod views;
 
 pub use split_core::{PartsFault, SplitCore};

@@ -6,7 +6,9 @@ ghost use Rattle.std.specs.FinSet as finite_set;
 ghost use Rattle.ss_records.specs.declared.record.Record.{Record};
 ghost use Rattle.ss_store.specs.declared.fault.StoreFault.{StoreFault};
 
+mod asking;
 mod get;
+mod head;
 mod put;
 
 use crate::views::Views;
@@ -92,14 +94,62 @@ impl<D: Disk> SplitCore<D> {
     }
 
     /// Makes the call, and answers as the method of its name does.
-    pub fn call(&mut self, alloc: Global, call: &Call) -> Answer
+    pub fn answer(&mut self, alloc: Global, call: &Call) -> Answer
         ensures told { IsTrue D.told → (s : State) (doubt : Option Record) → StandsFor self.old s doubt → Steps self.old self.new s doubt call.now result }
         ensures made { Makes self.old self.new call.now result }
     {
         match call {
             Call::OpenView => Answer::View(self.open_view()),
+            Call::CloseView { view } => Answer::Close(self.close_view(*view)),
             Call::Put { view, parcel } => Answer::Put(self.put(alloc, *view, parcel)),
             Call::Get { view, cid } => Answer::Get(self.get(alloc, *view, cid)),
+            Call::Has { view, cid } => Answer::Has(self.has(*view, cid)),
+            Call::Size { view, cid } => Answer::Size(self.size(*view, cid)),
+            Call::SetHead { cids } => Answer::Head(self.set_head(alloc, cids)),
+            Call::Info => Answer::Info(self.info()),
+        }
+    }
+
+    /// Makes the call, and gives its answer twice: once for who called, and once for a history. Both are `NoMemory` if memory runs
+    /// out for either.
+    pub fn call(&mut self, alloc: Global, call: &Call) -> (Answer, Answer)
+        ensures twice { result.0 ≡ result.1 }
+        ensures told { IsTrue D.told → (s : State) (doubt : Option Record) → StandsFor self.old s doubt → Steps self.old self.new s doubt call.now result.0 }
+        ensures made { Makes self.old self.new call.now result.0 }
+    {
+        match call {
+            Call::OpenView => {
+                let reply = self.open_view();
+                (Answer::View(reply), Answer::View(reply))
+            }
+            Call::CloseView { view } => {
+                let reply = self.close_view(*view);
+                (Answer::Close(reply), Answer::Close(reply))
+            }
+            Call::Put { view, parcel } => {
+                let reply = self.put(alloc, *view, parcel);
+                (Answer::Put(reply), Answer::Put(reply))
+            }
+            Call::Get { view, cid } => {
+                let (reply, again) = self.get_twice(alloc, *view, cid);
+                (Answer::Get(reply), Answer::Get(again))
+            }
+            Call::Has { view, cid } => {
+                let reply = self.has(*view, cid);
+                (Answer::Has(reply), Answer::Has(reply))
+            }
+            Call::Size { view, cid } => {
+                let reply = self.size(*view, cid);
+                (Answer::Size(reply), Answer::Size(reply))
+            }
+            Call::SetHead { cids } => {
+                let reply = self.set_head(alloc, cids);
+                (Answer::Head(reply), Answer::Head(reply))
+            }
+            Call::Info => {
+                let reply = self.info();
+                (Answer::Info(reply), Answer::Info(reply))
+            }
         }
     }
 

@@ -1,5 +1,5 @@
 //! The views that are open.
-ghost use Rattle.std.specs.Prelude.{◌≡◌, ℕ, ◌<◌, true, false, None, IfSome, length, not};
+ghost use Rattle.std.specs.Prelude.{◌≡◌, ℕ, ◌<◌, true, false, None, IfSome, length, not, cond};
 ghost use Rattle.std.specs.List.{position};
 ghost use Rattle.std.specs.FinSet as finite_set;
 
@@ -59,12 +59,24 @@ impl Views {
     pub fn close(&mut self, view: u32) -> bool
         ensures open { result ≡ finite_set.contains self.old view }
         ensures closed { self.new ≡ finite_set.remove self.old view }
+        ensures still { result ≡ false → self.new ≡ self.old }
     {
         let open = self.contains(view);
         if open {
             self.open[view as usize] = false;
         }
         open
+    }
+
+    /// How many views are open.
+    pub fn count(&self) -> u32
+        ensures { result ≡ finite_set.len self.now }
+    {
+        let mut count = 0;
+        for open in &self.open {
+            count += ones(*open);
+        }
+        count
     }
 }
 
@@ -73,4 +85,11 @@ fn first_closed(open: &[bool]) -> Option<usize>
     ensures within { IfSome result (λ at. at < length open.now) }
 {
     open.iter().position(|open| !open)
+}
+
+// How many views one mark counts.
+fn ones(open: bool) -> u32
+    ensures { result ≡ cond «open» 1 0 }
+{
+    if open { 1 } else { 0 }
 }

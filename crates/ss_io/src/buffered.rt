@@ -1,4 +1,4 @@
-ghost use Rattle.std.specs.Prelude.{◌≡◌, ◌<◌, ◌≤◌, [], length, take, drop, IfOk, OnOk, OnErr};
+ghost use Rattle.std.specs.Prelude.{◌≡◌, ◌<◌, ◌≤◌, [], length, take, drop, IfOk, IfErr, OnOk, OnErr};
 ghost use Rattle.std.specs.Io.{ReadsAtMost};
 ghost use Rattle.std.specs.Io.KnownBytes.{Keeps, Consumes, ReadConsumes, IsAtEnd};
 ghost use Rattle.ss_io.specs.Causes.{HasCause};
@@ -26,17 +26,31 @@ pub struct Buffered<S> {
 impl<S: Source + Drop> Buffered<S> {
     ghost use Rattle.ss_io.specs.Buffered.{buffered_of};
 
-    /// The source, of which nothing is buffered yet.
-    pub fn new(alloc: Global, source: S) -> Result<Buffered<S>, NoMemory>
+    /// The source, of which nothing is buffered yet. Out of memory, the source comes back.
+    pub fn new(alloc: Global, source: S) -> Result<Buffered<S>, (NoMemory, S)>
         ensures left { IfOk result (λ buffered. Keeps (S.left source) (⟦<Buffered<S> as Source>⟧.left buffered)) }
         ensures faults { IfOk result (λ buffered. ⟦<Buffered<S> as Source>⟧.faults buffered ≡ S.faults source) }
+        ensures place { IfOk result (λ buffered. ⟦<Buffered<S> as Source>⟧.place buffered ≡ S.place source) }
+        ensures back { IfErr result (λ refused. refused.1 ≡ source) }
     {
-        Ok(Buffered {
-            source,
-            buffer: vec![in alloc; 0; BUFFER_BYTES]?,
-            start: 0,
-            end: 0,
-        })
+        match vec![in alloc; 0; BUFFER_BYTES] {
+            Ok(buffer) => Ok(Buffered {
+                source,
+                buffer,
+                start: 0,
+                end: 0,
+            }),
+            Err(_) => Err((NoMemory, source)),
+        }
+    }
+
+    /// The source. Bytes that are buffered are lost.
+    pub fn into_inner(self) -> S
+        ensures faults { S.faults result ≡ ⟦<Buffered<S> as Source>⟧.faults self }
+        ensures place { S.place result ≡ ⟦<Buffered<S> as Source>⟧.place self }
+    {
+        let Buffered { source, .. } = self;
+        source
     }
 
     /// The bytes that are buffered: some of those that are left, from the first on.

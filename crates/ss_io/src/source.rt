@@ -29,3 +29,22 @@ pub trait Source {
     fn faults(&self) -> u64
         ensures { result ≡ faults self.now };
 }
+
+/// A source that is lent.
+impl<S: Source> Source for &mut S {
+    ghost use Rattle.std.specs.Prelude.{◌∷◌};
+
+    ghost left = { λ s. S.left s.now };
+
+    ghost faults = { λ s. S.faults s.now };
+
+    ghost place = { λ s. s.ghost_name ∷ S.place s.now };
+
+    fn read(&mut self, out: &mut [u8]) -> Result<usize, Failed> {
+        Source::read(&mut **self, out)
+    }
+
+    fn faults(&self) -> u64 {
+        Source::faults(&**self)
+    }
+}

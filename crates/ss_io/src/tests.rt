@@ -273,7 +273,9 @@ fn a_source_is_read_whole_up_to_a_limit(rt: HostRuntime) -> Result<(), Fail> {
 
 #[test]
 fn a_buffered_source_lends_its_bytes_before_they_are_taken(rt: HostRuntime) -> Result<(), Fail> {
-    let mut source = Buffered::new(rt.alloc(), five(&rt)?)?;
+    let Ok(mut source) = Buffered::new(rt.alloc(), five(&rt)?) else {
+        return Err(Fail::new("out of memory"));
+    };
     assert_eq!(rt; source.buffered().len(), 0);
     source.fill()?;
     let lent = source.buffered().len();

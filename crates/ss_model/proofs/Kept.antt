@@ -1,28 +1,25 @@
 -- What is kept stays, is valid, is under no identity CID, is hot, and fits its table.
 use Rattle.std.proofs.Common.{◌≡◌, ◌≢◌, ◌⊎◌, ⊎_elim, inl, inr, ℕ, zero, suc, Bool, true, false, cond, List, [], ◌∷◌, Option, Some, None, refl, sym, ap, ◌∙◌, subst, true≢false, arith}
-use Rattle.std.specs.Prelude.{◌≤◌, ◌||◌, is_some, slice_get}
+use Rattle.std.specs.Prelude.{◌==◌, ◌||◌, is_some, slice_get}
 use Rattle.std.specs.Ordering.{nat_cmp, eq_by_cmp}
 use Rattle.std.specs.Cmp.{Equal-is, tied_itself}
 use Rattle.std.specs.Cmp.Lexicographic.{slice_cmp, nat_list_cmp_total}
 use Rattle.std.specs.FinMap as map
-use Rattle.std.specs.FinMap.{get-insert, get-empty, len-empty, slice_cmp-IsAntisymmetric, nat_cmp-IsAntisymmetric}
+use Rattle.std.specs.FinMap.{get-insert, get-empty, slice_cmp-IsAntisymmetric, nat_cmp-IsAntisymmetric}
 use Rattle.std.specs.FinSet as set
-use Rattle.std.specs.FinSet.{contains-insert, contains-empty}
-use Rattle.ss_cid.specs.Cid.{identity_of}
+use Rattle.std.specs.FinSet.{contains-insert}
+use Rattle.ss_cid.specs.Cid.{hash_of, digest_of, identity_of}
+use Rattle.ss_chain.specs.Fetch.{is_identity, fetched}
+use Rattle.ss_chain.specs.Steps.{or_else}
 use Rattle.ss_hash.specs.Digest.{IsValid}
-use Rattle.ss_records.specs.declared.record.Config.{Config as Settings}
-use Rattle.ss_model.specs.State.{Kept, CidSet, State, empty_state}
-use Rattle.ss_model.specs.Lawful.{or_else, fetched, with_block, with_blocks, with_hot_cid, with_hot, AreSound, IsAdmitted, Lawful, LawfulGet, after_put, After}
-use Rattle.ss_model.specs.History.{Legal, AfterAll}
-use Rattle.ss_model.specs.declared.call.Call.{Call}
-use Rattle.ss_model.specs.declared.call.Call.TheVariants as call
-use Rattle.ss_model.specs.declared.call.Answer.{Answer}
-use Rattle.ss_model.specs.declared.call.Answer.TheVariants as answer
-use Rattle.ss_model.specs.declared.call.ViewReply.TheVariants as view
+use Rattle.ss_model.specs.State.{Kept, CidSet, State}
+use Rattle.ss_model.specs.Lawful.{is_known, with_block, with_blocks, with_hot_cid, with_hot, AreSound, LawfulGet, after_put, After}
+use Rattle.ss_model.specs.History.{AfterAll}
 use Rattle.ss_model.specs.declared.call.PutReply.TheVariants as put
 use Rattle.ss_model.specs.declared.call.GetReply.{GetReply}
 use Rattle.ss_model.specs.declared.call.GetReply.TheVariants as get
 use Rattle.ss_model.specs.declared.call.Entry.{Entry}
+use Rattle.ss_model.proofs.Each.{after_each}
 
 -- what an insert leaves at a CID: the new block there, and elsewhere what was
 inserted : (kept : Kept) (k v c : List ℕ) → ((c ≡ k) × (map.get (map.insert kept k v) c ≡ Some v)) ⊎ (map.get (map.insert kept k v) c ≡ map.get kept c)
@@ -32,6 +29,18 @@ inserted kept k v c = go (eq_by_cmp (slice_cmp nat_cmp) c k) refl
     go true e = inl (slice_cmp-IsAntisymmetric nat_cmp-IsAntisymmetric c k ((Equal-is (slice_cmp nat_cmp c k)).0 e), get-insert nat_list_cmp_total kept k v c ∙ ap (λ b. cond b (Some v) (map.get kept c)) e)
     go false e = inr (get-insert nat_list_cmp_total kept k v c ∙ ap (λ b. cond b (Some v) (map.get kept c)) e)
 
+-- an identity CID stands for its digest, and another for what is kept under it
+pub fetched_is : (kept : Kept) (c : List ℕ) → fetched kept c ≡ or_else (identity_of c) (map.get kept c)
+unfolding fetched is_identity identity_of
+fetched_is kept c = go (hash_of c == 0)
+  where
+    go : (b : Bool) → cond b (Some (digest_of c)) (map.get kept c) ≡ or_else (cond b (Some (digest_of c)) None) (map.get kept c)
+    go true = refl
+    go false = refl
+
+pub known_is : (kept : Kept) (c : List ℕ) → is_known kept c ≡ is_some (or_else (identity_of c) (map.get kept c))
+known_is kept c = ap is_some (fetched_is kept c)
+
 some_or : (id kept : Option (List ℕ)) (b : List ℕ) → kept ≡ Some b → is_some (or_else id kept) ≡ true
 some_or (Some d) kept b e = refl
 some_or None kept b e = ap is_some e
@@ -40,47 +49,30 @@ inside : (x y : List ℕ) → Some x ≡ Some y → x ≡ y
 inside x y e = cc
 
 block_stays : (kept : Kept) (p : List ℕ × List ℕ) (c b : List ℕ) → map.get kept c ≡ Some b → map.get (with_block kept p) c ≡ Some b
-unfolding with_block fetched
-block_stays kept p c b is = go (is_some (or_else (identity_of p.0) (map.get kept p.0))) refl
+unfolding with_block
+block_stays kept p c b is = go (is_known kept p.0) refl
   where
-    go : (known : Bool) → is_some (or_else (identity_of p.0) (map.get kept p.0)) ≡ known → map.get (cond known kept (map.insert kept p.0 p.1)) c ≡ Some b
+    go : (known : Bool) → is_known kept p.0 ≡ known → map.get (cond known kept (map.insert kept p.0 p.1)) c ≡ Some b
     go true e = is
     go false e = ⊎_elim
-        (λ (same : (c ≡ p.0) × (map.get (map.insert kept p.0 p.1) c ≡ Some p.1)). absurd (true≢false (sym (some_or (identity_of p.0) (map.get kept p.0) b (subst (λ k. map.get kept k ≡ Some b) same.0 is)) ∙ e)))
+        (λ (same : (c ≡ p.0) × (map.get (map.insert kept p.0 p.1) c ≡ Some p.1)). absurd (true≢false (sym (some_or (identity_of p.0) (map.get kept p.0) b (subst (λ k. map.get kept k ≡ Some b) same.0 is)) ∙ sym (known_is kept p.0) ∙ e)))
         (λ (other : map.get (map.insert kept p.0 p.1) c ≡ map.get kept c). other ∙ is)
         (inserted kept p.0 p.1 c)
 
-blocks_stay : (kept : Kept) (pairs : List (List ℕ × List ℕ)) (c b : List ℕ) → map.get kept c ≡ Some b → map.get (with_blocks kept pairs) c ≡ Some b
+pub blocks_stay : (kept : Kept) (pairs : List (List ℕ × List ℕ)) (c b : List ℕ) → map.get kept c ≡ Some b → map.get (with_blocks kept pairs) c ≡ Some b
 blocks_stay kept [] c b is = is
 blocks_stay kept (p ∷ pairs) c b is = blocks_stay (with_block kept p) pairs c b (block_stays kept p c b is)
 
--- only a put that stored changes settings, blocks and hot CIDs, and it was admitted
-pub step_keeps : (s : State) (k : Call) (a : Answer) (P : Settings → Kept → CidSet → Type 0) → P s.config s.kept s.hot → ((v : ℕ) (pairs : List (List ℕ × List ℕ)) → (Lawful s k a → IsAdmitted s v pairs) → P s.config (with_blocks s.kept pairs) (with_hot s.hot pairs)) → P (After s k a).config (After s k a).kept (After s k a).hot
-step_keeps s call.OpenView (answer.View (view.Opened n)) P same more = same
-step_keeps s call.OpenView (answer.View view.TooManyViews) P same more = same
-step_keeps s call.OpenView (answer.Put r) P same more = same
-step_keeps s call.OpenView (answer.Get r) P same more = same
-step_keeps s (call.Put v pairs) (answer.View r) P same more = same
-step_keeps s (call.Put v pairs) (answer.Get r) P same more = same
-step_keeps s (call.Put v pairs) (answer.Put (put.Stored new)) P same more = more v pairs (λ lawful. lawful.0)
-step_keeps s (call.Put v pairs) (answer.Put put.BadView) P same more = same
-step_keeps s (call.Put v pairs) (answer.Put (put.TooMany n)) P same more = same
-step_keeps s (call.Put v pairs) (answer.Put (put.TooBig n)) P same more = same
-step_keeps s (call.Put v pairs) (answer.Put (put.TooLarge i)) P same more = same
-step_keeps s (call.Put v pairs) (answer.Put (put.UnknownHash i)) P same more = same
-step_keeps s (call.Put v pairs) (answer.Put (put.Mismatch i)) P same more = same
-step_keeps s (call.Put v pairs) (answer.Put (put.Malformed i kind at)) P same more = same
-step_keeps s (call.Put v pairs) (answer.Put put.NoMemory) P same more = same
-step_keeps s (call.Put v pairs) (answer.Put (put.TableFull rows)) P same more = same
-step_keeps s (call.Put v pairs) (answer.Put (put.LogFull file need room)) P same more = same
-step_keeps s (call.Put v pairs) (answer.Put put.DiskFault) P same more = same
-step_keeps s (call.Get v c) (answer.View r) P same more = same
-step_keeps s (call.Get v c) (answer.Put r) P same more = same
-step_keeps s (call.Get v c) (answer.Get r) P same more = same
-
 pub stays : (s : State) (h : List Entry) (c b : List ℕ) → map.get s.kept c ≡ Some b → map.get (AfterAll s h).kept c ≡ Some b
 stays s [] c b is = is
-stays s (e ∷ h) c b is = stays (After s e.call e.answer) h c b (step_keeps s e.call e.answer (λ config kept hot. map.get kept c ≡ Some b) is (λ v pairs admitted. blocks_stay s.kept pairs c b is))
+stays s (e ∷ h) c b is =
+    stays (After s e.call e.answer) h c b (after_each s e.call e.answer (λ t. map.get t.kept c ≡ Some b) (record {
+      same = is;
+      opened = λ n few. is;
+      closed = λ v. is;
+      stored = λ v pairs admitted. blocks_stay s.kept pairs c b is;
+      headed = λ cids height set. is;
+    }))
 
 -- a CID that stands for a block goes on to
 
@@ -89,32 +81,32 @@ known_more (Some d) kept more known stays = refl
 known_more None None more known stays = absurd (true≢false (sym known))
 known_more None (Some b) more known stays = ap is_some (stays b refl)
 
-known_stays : (kept : Kept) (p : List ℕ × List ℕ) (c : List ℕ) → is_some (fetched kept c) ≡ true → is_some (fetched (with_block kept p) c) ≡ true
-unfolding fetched
-known_stays kept p c known = known_more (identity_of c) (map.get kept c) (map.get (with_block kept p) c) known (λ b is. block_stays kept p c b is)
+known_stays : (kept : Kept) (p : List ℕ × List ℕ) (c : List ℕ) → is_known kept c ≡ true → is_known (with_block kept p) c ≡ true
+known_stays kept p c known =
+    known_is (with_block kept p) c ∙ known_more (identity_of c) (map.get kept c) (map.get (with_block kept p) c) (sym (known_is kept c) ∙ known) (λ b is. block_stays kept p c b is)
 
-known_here : (kept : Kept) (p : List ℕ × List ℕ) → is_some (fetched (with_block kept p) p.0) ≡ true
-unfolding with_block fetched
-known_here kept p = go (is_some (or_else (identity_of p.0) (map.get kept p.0))) refl
+known_here : (kept : Kept) (p : List ℕ × List ℕ) → is_known (with_block kept p) p.0 ≡ true
+unfolding with_block
+known_here kept p = go (is_known kept p.0) refl
   where
-    go : (known : Bool) → is_some (or_else (identity_of p.0) (map.get kept p.0)) ≡ known → is_some (or_else (identity_of p.0) (map.get (cond known kept (map.insert kept p.0 p.1)) p.0)) ≡ true
+    go : (known : Bool) → is_known kept p.0 ≡ known → is_known (cond known kept (map.insert kept p.0 p.1)) p.0 ≡ true
     go true e = e
-    go false e = some_or (identity_of p.0) _ p.1 (get-insert nat_list_cmp_total kept p.0 p.1 p.0 ∙ ap (λ b. cond b (Some p.1) (map.get kept p.0)) ((Equal-is (slice_cmp nat_cmp p.0 p.0)).1 (tied_itself nat_list_cmp_total p.0)))
+    go false e = known_is (map.insert kept p.0 p.1) p.0 ∙ some_or (identity_of p.0) _ p.1 (get-insert nat_list_cmp_total kept p.0 p.1 p.0 ∙ ap (λ b. cond b (Some p.1) (map.get kept p.0)) ((Equal-is (slice_cmp nat_cmp p.0 p.0)).1 (tied_itself nat_list_cmp_total p.0)))
 
-all_stay : (kept : Kept) (pairs : List (List ℕ × List ℕ)) (c : List ℕ) → is_some (fetched kept c) ≡ true → is_some (fetched (with_blocks kept pairs) c) ≡ true
+all_stay : (kept : Kept) (pairs : List (List ℕ × List ℕ)) (c : List ℕ) → is_known kept c ≡ true → is_known (with_blocks kept pairs) c ≡ true
 all_stay kept [] c known = known
 all_stay kept (p ∷ pairs) c known = all_stay (with_block kept p) pairs c (known_stays kept p c known)
 
-known_after : (kept : Kept) (pairs : List (List ℕ × List ℕ)) (i : ℕ) (p : List ℕ × List ℕ) → slice_get pairs i ≡ Some p → is_some (fetched (with_blocks kept pairs) p.0) ≡ true
+known_after : (kept : Kept) (pairs : List (List ℕ × List ℕ)) (i : ℕ) (p : List ℕ × List ℕ) → slice_get pairs i ≡ Some p → is_known (with_blocks kept pairs) p.0 ≡ true
 known_after kept [] i p at = absurd (cc)
 known_after kept (q ∷ pairs) zero p at =
     let same : q ≡ p = cc in
-    subst (λ r. is_some (fetched (with_blocks (with_block kept q) pairs) r.0) ≡ true) same (all_stay (with_block kept q) pairs q.0 (known_here kept q))
+    subst (λ r. is_known (with_blocks (with_block kept q) pairs) r.0 ≡ true) same (all_stay (with_block kept q) pairs q.0 (known_here kept q))
 known_after kept (q ∷ pairs) (suc i) p at = known_after (with_block kept q) pairs i p at
 
-known_on : (s : State) (h : List Entry) (c : List ℕ) → is_some (fetched s.kept c) ≡ true → is_some (fetched (AfterAll s h).kept c) ≡ true
-unfolding fetched
-known_on s h c known = known_more (identity_of c) (map.get s.kept c) (map.get (AfterAll s h).kept c) known (λ b is. stays s h c b is)
+known_on : (s : State) (h : List Entry) (c : List ℕ) → is_known s.kept c ≡ true → is_known (AfterAll s h).kept c ≡ true
+known_on s h c known =
+    known_is (AfterAll s h).kept c ∙ known_more (identity_of c) (map.get s.kept c) (map.get (AfterAll s h).kept c) (sym (known_is s.kept c) ∙ known) (λ b is. stays s h c b is)
 
 pub found : (s : State) (pairs : List (List ℕ × List ℕ)) (new : ℕ) (between : List Entry) (i : ℕ) (p : List ℕ × List ℕ) (v : ℕ) (reply : GetReply) → slice_get pairs i ≡ Some p → LawfulGet (AfterAll (after_put s pairs (put.Stored new)) between) v p.0 reply → reply ≢ get.NotFound
 found s pairs new between i p v reply at lawful is =
@@ -129,7 +121,7 @@ AreValid kept = (c b : List ℕ) → map.get kept c ≡ Some b → IsValid c b
 
 block_valid : (kept : Kept) (p : List ℕ × List ℕ) → AreValid kept → IsValid p.0 p.1 → AreValid (with_block kept p)
 unfolding with_block
-block_valid kept p valid new = go (is_some (fetched kept p.0))
+block_valid kept p valid new = go (is_known kept p.0)
   where
     go : (known : Bool) → AreValid (cond known kept (map.insert kept p.0 p.1))
     go true = valid
@@ -145,12 +137,6 @@ blocks_valid kept [] valid sound = valid
 blocks_valid kept (p ∷ pairs) valid sound =
     blocks_valid (with_block kept p) pairs (block_valid kept p valid (sound 0 p (omega arith) refl).valid) (λ k q within at. sound (suc k) q (omega arith) at)
 
--- what each admitted put keeps, a legal history keeps
-history_keeps : (P : Settings → Kept → CidSet → Type 0) → ((s : State) (v : ℕ) (pairs : List (List ℕ × List ℕ)) → IsAdmitted s v pairs → P s.config s.kept s.hot → P s.config (with_blocks s.kept pairs) (with_hot s.hot pairs)) → (s : State) (h : List Entry) → P s.config s.kept s.hot → Legal s h → P (AfterAll s h).config (AfterAll s h).kept (AfterAll s h).hot
-history_keeps P puts s [] now legal = now
-history_keeps P puts s (e ∷ h) now legal =
-    history_keeps P puts (After s e.call e.answer) h (step_keeps s e.call e.answer P now (λ v pairs admitted. puts s v pairs (admitted legal.0) now)) legal.1
-
 pub nothing_kept : (k x : List ℕ) → map.get (map.empty {X = List ℕ} {R = slice_cmp nat_cmp}) k ≡ Some x → ⊥
 nothing_kept k x none = true≢false (sym (ap is_some (sym (get-empty (slice_cmp nat_cmp) k) ∙ none)))
 
@@ -164,13 +150,13 @@ no_identity (Some d) kept e = absurd (true≢false e)
 no_identity None kept e = refl
 
 block_stored : (kept : Kept) (p : List ℕ × List ℕ) → AreStored kept → AreStored (with_block kept p)
-unfolding with_block fetched
-block_stored kept p are c b = go (is_some (or_else (identity_of p.0) (map.get kept p.0))) refl
+unfolding with_block
+block_stored kept p are c b = go (is_known kept p.0) refl
   where
-    go : (known : Bool) → is_some (or_else (identity_of p.0) (map.get kept p.0)) ≡ known → map.get (cond known kept (map.insert kept p.0 p.1)) c ≡ Some b → identity_of c ≡ None
+    go : (known : Bool) → is_known kept p.0 ≡ known → map.get (cond known kept (map.insert kept p.0 p.1)) c ≡ Some b → identity_of c ≡ None
     go true e is = are c b is
     go false e is = ⊎_elim
-        (λ (same : (c ≡ p.0) × (map.get (map.insert kept p.0 p.1) c ≡ Some p.1)). subst (λ k. identity_of k ≡ None) (sym same.0) (no_identity (identity_of p.0) (map.get kept p.0) e))
+        (λ (same : (c ≡ p.0) × (map.get (map.insert kept p.0 p.1) c ≡ Some p.1)). subst (λ k. identity_of k ≡ None) (sym same.0) (no_identity (identity_of p.0) (map.get kept p.0) (sym (known_is kept p.0) ∙ e)))
         (λ (other : map.get (map.insert kept p.0 p.1) c ≡ map.get kept c). are c b (sym other ∙ is))
         (inserted kept p.0 p.1 c)
 
@@ -178,18 +164,15 @@ pub blocks_stored : (kept : Kept) (pairs : List (List ℕ × List ℕ)) → AreS
 blocks_stored kept [] are = are
 blocks_stored kept (p ∷ pairs) are = blocks_stored (with_block kept p) pairs (block_stored kept p are)
 
--- a table with a row for each block has one for each behind a legal history
-pub still_within : (s : State) (h : List Entry) → map.len s.kept ≤ s.config.rows → Legal s h → map.len (AfterAll s h).kept ≤ (AfterAll s h).config.rows
-still_within s h few legal = history_keeps (λ config kept hot. map.len kept ≤ config.rows) (λ t v pairs admitted now. admitted.rows) s h few legal
-
 -- only what is kept is hot
 
 abbrev pub AreKept : Kept → CidSet → Type 0
 AreKept kept hot = (c : List ℕ) → set.contains hot c ≡ true → map.contains_key kept c ≡ true
 
 block_kept : (kept : Kept) (hot : CidSet) (p : List ℕ × List ℕ) → AreKept kept hot → AreKept (with_block kept p) (with_hot_cid hot p.0)
-unfolding with_block with_hot_cid fetched
-block_kept kept hot p are c = by_identity (identity_of p.0)
+unfolding with_block with_hot_cid
+block_kept kept hot p are c =
+    subst (λ known. set.contains (cond (is_some (identity_of p.0)) hot (set.insert hot p.0)) c ≡ true → is_some (map.get (cond known kept (map.insert kept p.0 p.1)) c) ≡ true) (sym (known_is kept p.0)) (by_identity (identity_of p.0))
   where
     in_known : (same : Bool) → eq_by_cmp (slice_cmp nat_cmp) c p.0 ≡ same → is_some (map.get kept p.0) ≡ true → (same || set.contains hot c) ≡ true → is_some (map.get kept c) ≡ true
     in_known true e known is = subst (λ k. is_some (map.get kept k) ≡ true) (sym (slice_cmp-IsAntisymmetric nat_cmp-IsAntisymmetric c p.0 ((Equal-is (slice_cmp nat_cmp c p.0)).0 e))) known
@@ -217,8 +200,9 @@ abbrev pub AreHot : Kept → CidSet → Type 0
 AreHot kept hot = (c : List ℕ) → map.contains_key kept c ≡ true → set.contains hot c ≡ true
 
 block_hot : (kept : Kept) (hot : CidSet) (p : List ℕ × List ℕ) → AreHot kept hot → AreHot (with_block kept p) (with_hot_cid hot p.0)
-unfolding with_block with_hot_cid fetched
-block_hot kept hot p are c = by_identity (identity_of p.0)
+unfolding with_block with_hot_cid
+block_hot kept hot p are c =
+    subst (λ known. is_some (map.get (cond known kept (map.insert kept p.0 p.1)) c) ≡ true → set.contains (cond (is_some (identity_of p.0)) hot (set.insert hot p.0)) c ≡ true) (sym (known_is kept p.0)) (by_identity (identity_of p.0))
   where
     known_before : (same : Bool) → is_some (map.get kept c) ≡ true → (same || set.contains hot c) ≡ true
     known_before true is = refl

@@ -3,13 +3,16 @@
 -- Each call has a list of answers, and the lawful one is the first whose condition holds. Three answers depend on more than
 -- the state: out of memory, a full log, whose room no state has, and a fault of the disk. Each may stand in its place in
 -- the list, and a later one too. Only an answer that is named with an effect changes the state.
-use Rattle.std.specs.Prelude.{◌≡◌, ◌≢◌, ℕ, ◌+◌, ◌-◌, ◌^◌, ◌<◌, ◌≤◌, min, max, Bool, true, false, ◌||◌, List, [], ◌∷◌, length, Option, None, Some, if◌then◌else◌, is_some, IsOk, Err, slice_get, sum_by}
+use Rattle.std.specs.Prelude.{◌≡◌, ◌≢◌, ℕ, ◌+◌, ◌-◌, ◌^◌, ◌<◌, ◌≤◌, nat_le, min, max, Bool, true, false, ◌||◌, List, [], ◌∷◌, length, Option, None, Some, if◌then◌else◌, is_some, option_map, IsOk, Err, slice_get, sum_by}
 use Rattle.std.specs.FinMap as map
 use Rattle.std.specs.FinSet as set
 use Rattle.ss_cid.specs.Cid.{codec_of, identity_of}
 use Rattle.ss_cbor.specs.Fault.{scanned}
 use Rattle.ss_cbor.specs.declared.fault.CborFault.{CborFault}
+use Rattle.ss_chain.specs.Fetch.{fetched}
+use Rattle.ss_chain.specs.Steps.{passes}
 use Rattle.ss_hash.specs.Digest.{IsValid, IsUnknownHash}
+use Rattle.ss_model.specs.Head.{unread_refusal, head_refusal, IsHead, head_need}
 use Rattle.ss_model.specs.State.{Kept, CidSet, State}
 use Rattle.ss_model.specs.declared.TheConstants.{VIEWS, PUT_BLOCKS, PUT_BYTES, BLOCK_BYTES}
 use Rattle.ss_model.specs.declared.call.Call.{Call}
@@ -22,23 +25,27 @@ use Rattle.ss_model.specs.declared.call.PutReply.{PutReply}
 use Rattle.ss_model.specs.declared.call.PutReply.TheVariants as put
 use Rattle.ss_model.specs.declared.call.GetReply.{GetReply}
 use Rattle.ss_model.specs.declared.call.GetReply.TheVariants as get
+use Rattle.ss_model.specs.declared.call.CloseReply.{CloseReply}
+use Rattle.ss_model.specs.declared.call.CloseReply.TheVariants as close
+use Rattle.ss_model.specs.declared.call.HasReply.{HasReply}
+use Rattle.ss_model.specs.declared.call.HasReply.TheVariants as has
+use Rattle.ss_model.specs.declared.call.SizeReply.{SizeReply}
+use Rattle.ss_model.specs.declared.call.SizeReply.TheVariants as size
+use Rattle.ss_model.specs.declared.call.HeadReply.{HeadReply}
+use Rattle.ss_model.specs.declared.call.HeadReply.TheVariants as head
+use Rattle.ss_model.specs.declared.call.Info.{Info}
 
 -- the view of this number is open
 abbrev pub is_open : State → ℕ → Bool
 is_open s v = set.contains s.views v
 
--- the first of two blocks, if it is there
-abbrev pub or_else : Option (List ℕ) → Option (List ℕ) → Option (List ℕ)
-or_else (Some block) other = Some block
-or_else None other = other
-
--- What a CID stands for in a store: an identity CID for its digest, and another for the bytes that are kept under it.
-unfoldable pub fetched : Kept → List ℕ → Option (List ℕ)
-fetched kept c = or_else (identity_of c) (map.get kept c)
+-- the CID stands for a block: it is an identity CID, or kept
+abbrev pub is_known : Kept → List ℕ → Bool
+is_known kept c = is_some (fetched kept c)
 
 -- The block joins the kept ones, unless its CID stands for a block already: that one stays. So an identity CID is never kept.
 unfoldable pub with_block : Kept → List ℕ × List ℕ → Kept
-with_block kept p = if is_some (fetched kept p.0) then kept else map.insert kept p.0 p.1
+with_block kept p = if is_known kept p.0 then kept else map.insert kept p.0 p.1
 
 -- the blocks of a parcel join, in order
 abbrev pub with_blocks : Kept → List (List ℕ × List ℕ) → Kept
@@ -169,15 +176,50 @@ LawfulPut s v pairs refusal = IsPutRefusal s v pairs refusal
 abbrev pub LawfulGet : State → ℕ → List ℕ → GetReply → Type 0
 LawfulGet s v c get.BadView = is_open s v ≡ false
 LawfulGet s v c get.NotFound = (is_open s v ≡ true) × (fetched s.kept c ≡ None)
-LawfulGet s v c get.NoMemory = (is_open s v ≡ true) × (is_some (fetched s.kept c) ≡ true)
-LawfulGet s v c get.DiskFault = (is_open s v ≡ true) × (is_some (fetched s.kept c) ≡ true) × (identity_of c ≡ None)
+LawfulGet s v c get.NoMemory = (is_open s v ≡ true) × (is_known s.kept c ≡ true)
+LawfulGet s v c get.DiskFault = (is_open s v ≡ true) × (is_known s.kept c ≡ true) × (identity_of c ≡ None)
 LawfulGet s v c (get.Found block) = (is_open s v ≡ true) × (fetched s.kept c ≡ Some block)
+
+abbrev pub LawfulClose : State → ℕ → CloseReply → Type 0
+LawfulClose s v close.BadView = is_open s v ≡ false
+LawfulClose s v close.Closed = is_open s v ≡ true
+
+abbrev pub LawfulHas : State → ℕ → List ℕ → HasReply → Type 0
+LawfulHas s v c has.BadView = is_open s v ≡ false
+LawfulHas s v c has.No = (is_open s v ≡ true) × (is_known s.kept c ≡ false)
+LawfulHas s v c has.Yes = (is_open s v ≡ true) × (is_known s.kept c ≡ true)
+
+abbrev pub LawfulSize : State → ℕ → List ℕ → SizeReply → Type 0
+LawfulSize s v c size.BadView = is_open s v ≡ false
+LawfulSize s v c size.NotFound = (is_open s v ≡ true) × (fetched s.kept c ≡ None)
+LawfulSize s v c (size.Size n) = (is_open s v ≡ true) × (option_map length (fetched s.kept c) ≡ Some n)
+
+-- a fault of the disk may stop a head where no fault of the CIDs does: its blocks are read, or its record is written
+abbrev pub LawfulHead : State → List (List ℕ) → HeadReply → Type 0
+LawfulHead s cids head.NoMemory = unread_refusal s.kept cids ≡ None
+LawfulHead s cids head.DiskFault = unread_refusal s.kept cids ≡ None
+LawfulHead s cids (head.LogFull file need room) = ((height : ℕ) × IsHead s.kept cids height) × (file ≡ 0) × (need ≡ head_need cids) × (room < need)
+LawfulHead s cids (head.Set height) = IsHead s.kept cids height
+LawfulHead s cids refusal = head_refusal s.kept cids ≡ Some refusal
+
+-- a head is set, and its height is at least the threshold above the base
+abbrev pub is_due : State → Bool
+is_due s = passes (λ h. nat_le (s.base + s.config.threshold) h.0) s.head
+
+-- what the store tells of itself; no compaction runs
+abbrev pub info_of : State → Info
+info_of s = record { config = s.config; height = option_map (λ h. h.0) s.head; base = s.base; ended = s.ended; hot = set.len s.hot; kept = map.len s.kept; views = set.len s.views; running = false; due = is_due s }
 
 -- the answer is lawful for this call at this state
 abbrev pub Lawful : State → Call → Answer → Type 0
 Lawful s call.OpenView (answer.View r) = LawfulView s r
 Lawful s (call.Put v pairs) (answer.Put r) = LawfulPut s v pairs r
 Lawful s (call.Get v c) (answer.Get r) = LawfulGet s v c r
+Lawful s (call.CloseView v) (answer.Close r) = LawfulClose s v r
+Lawful s (call.Has v c) (answer.Has r) = LawfulHas s v c r
+Lawful s (call.Size v c) (answer.Size r) = LawfulSize s v c r
+Lawful s (call.SetHead cids) (answer.Head r) = LawfulHead s cids r
+Lawful s call.Info (answer.Info i) = i ≡ info_of s
 Lawful s _ _ = ⊥
 
 abbrev pub after_view : State → ViewReply → State
@@ -188,22 +230,34 @@ abbrev pub after_put : State → List (List ℕ × List ℕ) → PutReply → St
 after_put s pairs (put.Stored new) = record s { kept = with_blocks s.kept pairs; hot = with_hot s.hot pairs }
 after_put s pairs _ = s
 
+abbrev pub after_close : State → ℕ → CloseReply → State
+after_close s v close.Closed = record s { views = set.remove s.views v }
+after_close s v close.BadView = s
+
+abbrev pub after_head : State → List (List ℕ) → HeadReply → State
+after_head s cids (head.Set height) = record s { head = Some (height, cids) }
+after_head s cids _ = s
+
 -- the state after the answer
 abbrev pub After : State → Call → Answer → State
 After s call.OpenView (answer.View r) = after_view s r
 After s (call.Put v pairs) (answer.Put r) = after_put s pairs r
+After s (call.CloseView v) (answer.Close r) = after_close s v r
+After s (call.SetHead cids) (answer.Head r) = after_head s cids r
 After s _ _ = s
 
 -- the answer is out of memory
 abbrev pub is_no_memory : Answer → Bool
 is_no_memory (answer.Put put.NoMemory) = true
 is_no_memory (answer.Get get.NoMemory) = true
+is_no_memory (answer.Head head.NoMemory) = true
 is_no_memory _ = false
 
 -- the answer is a fault of the disk
 abbrev pub is_disk_fault : Answer → Bool
 is_disk_fault (answer.Put put.DiskFault) = true
 is_disk_fault (answer.Get get.DiskFault) = true
+is_disk_fault (answer.Head head.DiskFault) = true
 is_disk_fault _ = false
 
 -- the answer is that too many CIDs would be kept
@@ -214,4 +268,5 @@ is_table_full _ = false
 -- the answer is that a log has no room
 abbrev pub is_log_full : Answer → Bool
 is_log_full (answer.Put (put.LogFull file need room)) = true
+is_log_full (answer.Head (head.LogFull file need room)) = true
 is_log_full _ = false

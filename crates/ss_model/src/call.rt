@@ -1,11 +1,17 @@
 use ss_cbor::CborKind;
-use ss_cid::{Bytes, Cid, Parcel};
+use ss_cid::{Bytes, Cid, Cids, Parcel};
+use ss_records::Config;
 
 /// What a client asks of the store.
 #[derive(Debug, Drop)]
 pub enum Call {
     /// Opens a view, a numbered session.
     OpenView,
+    /// Closes a view.
+    CloseView {
+        /// The view's number.
+        view: u32,
+    },
     /// Stores the blocks of a parcel.
     Put {
         /// The view under which the call is made.
@@ -20,6 +26,27 @@ pub enum Call {
         /// The block's CID.
         cid: Cid,
     },
+    /// Asks whether a block is kept.
+    Has {
+        /// The view under which the call is made.
+        view: u32,
+        /// The block's CID.
+        cid: Cid,
+    },
+    /// Asks how many bytes a block has.
+    Size {
+        /// The view under which the call is made.
+        view: u32,
+        /// The block's CID.
+        cid: Cid,
+    },
+    /// Sets a tipset as head.
+    SetHead {
+        /// The CIDs of its headers.
+        cids: Cids,
+    },
+    /// Asks for the settings and the counts.
+    Info,
 }
 
 /// What the store answers to a call.
@@ -27,10 +54,20 @@ pub enum Call {
 pub enum Answer {
     /// The answer to `Call::OpenView`.
     View(ViewReply),
+    /// The answer to `Call::CloseView`.
+    Close(CloseReply),
     /// The answer to `Call::Put`.
     Put(PutReply),
     /// The answer to `Call::Get`.
     Get(GetReply),
+    /// The answer to `Call::Has`.
+    Has(HasReply),
+    /// The answer to `Call::Size`.
+    Size(SizeReply),
+    /// The answer to `Call::SetHead`.
+    Head(HeadReply),
+    /// The answer to `Call::Info`.
+    Info(Info),
 }
 
 /// The answer to `Call::OpenView`.
@@ -40,6 +77,15 @@ pub enum ViewReply {
     Opened(u32),
     /// All views are open.
     TooManyViews,
+}
+
+/// The answer to `Call::CloseView`.
+#[derive(Clone, Copy, Debug, PartialEq, Eq)]
+pub enum CloseReply {
+    /// The view was open, and is closed. Its number may be given again.
+    Closed,
+    /// The view is not open.
+    BadView,
 }
 
 /// The answer to `Call::Put`. After every answer but `Stored` the store is as it was.
@@ -123,6 +169,109 @@ pub enum GetReply {
     DiskFault,
     /// The block's bytes.
     Found(Bytes),
+}
+
+/// The answer to `Call::Has`.
+#[derive(Clone, Copy, Debug, PartialEq, Eq)]
+pub enum HasReply {
+    /// The view is not open.
+    BadView,
+    /// The block is not kept.
+    No,
+    /// The block is kept, or the CID is an identity CID.
+    Yes,
+}
+
+/// The answer to `Call::Size`.
+#[derive(Clone, Copy, Debug, PartialEq, Eq)]
+pub enum SizeReply {
+    /// The view is not open.
+    BadView,
+    /// The block is not kept.
+    NotFound,
+    /// How many bytes the block has.
+    Size(u32),
+}
+
+/// The answer to `Call::SetHead`. After every answer but `Set` the store is as it was. Here `i` is a place from 0 in the
+/// list of CIDs, the least to which the refusal applies.
+#[derive(Clone, Copy, Debug, PartialEq, Eq)]
+pub enum HeadReply {
+    /// There is no CID.
+    Empty,
+    /// There are more than 64 CIDs.
+    TooMany {
+        /// How many, 2^32 - 1 at the most.
+        n: u32,
+    },
+    /// The CID stands earlier too.
+    Repeated {
+        /// The place of the second.
+        i: u32,
+    },
+    /// The block is not kept.
+    Absent {
+        /// The place of its CID.
+        i: u32,
+    },
+    /// The store ran out of memory.
+    NoMemory,
+    /// The block is no header. This and the two faults below name the first block that has one, and of one block's faults the
+    /// first in this order.
+    NotHeader {
+        /// The place of its CID.
+        i: u32,
+    },
+    /// The header has another height than the first.
+    HeightDiffers {
+        /// The place of its CID.
+        i: u32,
+    },
+    /// The header has other parents than the first, or the same in another order.
+    ParentsDiffer {
+        /// The place of its CID.
+        i: u32,
+    },
+    /// The log has no room for the record of the head, and nothing of it was written.
+    LogFull {
+        /// The file of the log.
+        file: u8,
+        /// How many bytes of the log the record takes, its gate and its length among them.
+        need: u64,
+        /// For how many bytes there is room.
+        room: u64,
+    },
+    /// The disk's count of faults rose in this call. The head is as it was. Only where the store stops before a later call has
+    /// reached the disk without a fault is the new head in doubt: the store that is opened then has it or the old one.
+    DiskFault,
+    /// The tipset is the head.
+    Set {
+        /// The height of its headers.
+        height: u64,
+    },
+}
+
+/// The answer to `Call::Info`: the settings, and what the store counts.
+#[derive(Clone, Copy, Debug, PartialEq, Eq)]
+pub struct Info {
+    /// The settings.
+    pub config: Config,
+    /// The height of the head, in epochs; None where no head was set.
+    pub height: Option<u64>,
+    /// The edge of the last compaction that ended, a height; 0 before the first.
+    pub base: u64,
+    /// How many compactions have ended.
+    pub ended: u64,
+    /// How many CIDs are hot.
+    pub hot: u64,
+    /// How many CIDs are kept.
+    pub kept: u64,
+    /// How many views are open.
+    pub views: u32,
+    /// Whether a compaction runs.
+    pub running: bool,
+    /// Whether one is due: none runs, and the head's height is at least `base` and the setting `threshold` together.
+    pub due: bool,
 }
 
 /// One line of a history: who made which call, and what the store answered.

@@ -2,10 +2,12 @@
 
 ghost use Rattle.std.specs.Prelude.{◌≡◌, ◌≢◌, ℕ, ◌+◌, false, List, length, Some, slice_get};
 ghost use Rattle.std.specs.FinMap as map;
+ghost use Rattle.ss_chain.specs.Tipset.{IsTipset};
 ghost use Rattle.ss_records.specs.declared.record.Config.{Config as Settings};
 ghost use Rattle.ss_records.specs.declared.record.Record.{Record};
 ghost use Rattle.ss_records.specs.Record.{spelling};
 ghost use Rattle.ss_model.specs.State.{State, empty_state, closed};
+ghost use Rattle.ss_model.specs.Head.{blocks_of, head_need};
 ghost use Rattle.ss_model.specs.Proper.{IsProper};
 ghost use Rattle.ss_model.specs.Lawful.{is_open, pairs_need, Lawful, LawfulGet, After, after_put};
 ghost use Rattle.ss_model.specs.History.{Legal, AfterAll};
@@ -35,11 +37,17 @@ pub fn a_new_store_is_proper()
 
 /// Each legal entry, each legal history and closing keep a proper state. So whatever a store went through since it was made,
 /// in any number of runs: each kept block is valid for its CID, which is no identity CID; all kept blocks are hot in discard
-/// mode; and no more are kept than the settings allow.
+/// mode; no more are kept than the settings allow; and the head is a tipset of blocks that are there.
 pub fn a_proper_state_stays_proper()
     ensures entry { (s : State) (asked : Call) (given : Answer) → IsProper s → Lawful s asked given → IsProper (After s asked given) }
     ensures history { (s : State) (h : List Entry) → IsProper s → Legal s h → IsProper (AfterAll s h) }
     ensures closing { (s : State) → IsProper s → IsProper (closed s) }
+{}
+
+/// The head of a proper state is a tipset: distinct headers of one height with the same parents, each under an identity CID or
+/// kept.
+pub fn a_head_is_a_tipset()
+    ensures { (s : State) (height : ℕ) (cids : List (List ℕ)) → IsProper s → s.head ≡ Some (height, cids) → IsTipset (blocks_of s.kept cids) height }
 {}
 
 /// The view that a script's line is given where its own `open` has not answered is never open.
@@ -54,7 +62,8 @@ pub fn limits()
     ensures compactor { COMPACTOR ≡ 255 }
 {}
 
-/// What a put needs of a log is what the record of its blocks takes: its body, and five bytes for the gate and the length.
+/// What a put or a head needs of a log is what its record takes: the body, and five bytes for the gate and the length.
 pub fn need_is_of_the_record()
-    ensures { (pairs : List (List ℕ × List ℕ)) → pairs_need pairs ≡ 5 + length (spelling (Record.Put pairs)) }
+    ensures put { (pairs : List (List ℕ × List ℕ)) → pairs_need pairs ≡ 5 + length (spelling (Record.Put pairs)) }
+    ensures head { (height : ℕ) (cids : List (List ℕ)) → head_need cids ≡ 5 + length (spelling (Record.Head height cids)) }
 {}

@@ -5,12 +5,21 @@
 //! log and a fault of the disk, which may stand in its place; the state after an answer is a function of the state, the
 //! call and the answer. So a history, a list of entries, is legal or not, and stands for one run. The definitions are
 //! in `specs/`; this crate has the types that they speak of, and the laws that hold of histories.
+//!
+//! [`reach`] computes which kept blocks are reached from some CIDs, by a plain search. The store keeps colours and never
+//! calls it: tests compare the two.
 #![tactic(auto)]
 
 mod call;
 pub mod laws;
+mod met;
+mod reaching;
 
-pub use call::{Answer, Call, Entry, GetReply, PutReply, ViewReply};
+pub use call::{
+    Answer, Call, CloseReply, Entry, GetReply, HasReply, HeadReply, Info, PutReply, SizeReply,
+    ViewReply,
+};
+pub use reaching::reach;
 
 /// The client number under which the store's own compactor makes its calls.
 pub const COMPACTOR: u8 = 255;
@@ -29,3 +38,6 @@ pub const PUT_BYTES: u64 = 15_728_640;
 
 /// The most bytes of a CID and its block together.
 pub const BLOCK_BYTES: usize = 8_388_608;
+
+#[cfg(test)]
+mod tests;

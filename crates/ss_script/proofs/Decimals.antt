@@ -13,7 +13,7 @@ use Rattle.std.proofs.lemmas.Bool.Decides.{nat_tests}
 use Rattle.std.proofs.lemmas.Fmt.{IsAscii-from_digits, decimal-digits_value, decimal_nonempty, digits_decimal, first_decimal}
 use Rattle.std.proofs.lemmas.Str.{IsUtf8-from_ascii}
 use Rattle.std.proofs.lemmas.Str.Parse.{IsNumeralModel, numerals_by_value, tells_all_ascii_digits, parse_digits}
-use Rattle.ss_script.specs.declared.fault.ScriptKind.TheVariants.{NotYet}
+use Rattle.ss_script.specs.declared.fault.ScriptKind.TheVariants.{BadNumber}
 use Rattle.ss_script.specs.Fields.{is_number, number_of}
 
 own : IsNumeralModel (λ ds. all_ascii_digits ds ≡ true) (digits_value 10)
@@ -55,13 +55,13 @@ number_printed n small = and_all _ _ _ (lt-ltb 0 _ (decimal_nonempty n small)) (
 pub number_parses : {E : Type 0} (width : ℕ) (bs : List ℕ) (r : Result ℕ E) → is_number bs ≡ true → ParsesUnsigned width 10 bs r → OkIff r ((0 < length bs) × (digits_value 10 bs < 2 ^ width)) (digits_value 10 bs)
 number_parses width bs r is parses = parse_digits own width bs r parses (number_digits bs is)
 
-pub number_parsed : {E : Type 0} (bs : List ℕ) (r : Result ℕ E) → is_number bs ≡ true → ParsesUnsigned 32 10 bs r → ok_or (result_ok r) NotYet ≡ number_of bs
+pub number_parsed : {E : Type 0} (bs : List ℕ) (r : Result ℕ E) → is_number bs ≡ true → ParsesUnsigned 32 10 bs r → ok_or (result_ok r) BadNumber ≡ number_of bs
 unfolding number_of
 number_parsed bs r is parses =
     let positive : 0 < length bs = ltb-true _ _ (and_parts (nat_lt 0 (length bs)) _ is).0 in
     rw is (go r (number_parses 32 bs r is parses) (nat_lt (digits_value 10 bs) (2 ^ 32)) refl positive)
   where
-    go : {E : Type 0} (r : Result ℕ E) → OkIff r ((0 < length bs) × (digits_value 10 bs < 2 ^ 32)) (digits_value 10 bs) → (b : Bool) → nat_lt (digits_value 10 bs) (2 ^ 32) ≡ b → 0 < length bs → ok_or (result_ok r) NotYet ≡ cond b (Ok (digits_value 10 bs)) (Err NotYet)
+    go : {E : Type 0} (r : Result ℕ E) → OkIff r ((0 < length bs) × (digits_value 10 bs < 2 ^ 32)) (digits_value 10 bs) → (b : Bool) → nat_lt (digits_value 10 bs) (2 ^ 32) ≡ b → 0 < length bs → ok_or (result_ok r) BadNumber ≡ cond b (Ok (digits_value 10 bs)) (Err BadNumber)
     go (Ok x) h true e p = ap Ok h.1
     go (Ok x) h false e p = absurd (omega (arith, ltb-false _ _ e, h.0.1))
     go (Err x) h true e p = absurd (h (p, ltb-true _ _ e))

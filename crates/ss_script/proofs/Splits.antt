@@ -1,10 +1,13 @@
 -- A list that is cut at the first place that passes.
-use Rattle.std.proofs.Common.{◌≡◌, ℕ, suc, ◌+◌, ◌≤◌, Bool, true, false, cond, not, List, [], ◌∷◌, Some, None, length, take, drop, refl, ap, subst, arith}
-use Rattle.std.specs.Prelude.{nat_lt}
+use Rattle.std.proofs.Common.{◌≡◌, ℕ, suc, ◌+◌, ◌-◌, ◌≤◌, Bool, true, false, cond, not, List, [], ◌∷◌, Some, None, length, take, drop, refl, ap, subst, arith}
+use Rattle.std.specs.Prelude.{nat_lt, ◌==◌}
 use Rattle.std.specs.List.{slice_split, onto_first, position, position_or_len, prefix_len}
 use Rattle.std.proofs.lemmas.Bool.{ltb-true}
+use Rattle.std.proofs.lemmas.List.{length-take}
 use Rattle.std.proofs.lemmas.List.Splits.{slice_split_first, length-slice_split}
 use Rattle.std.proofs.lemmas.List.Sums.{count_by-le-length}
+use Rattle.std.specs.Io.BufRead.{ends_with_byte, strip_last}
+use Rattle.ss_script.specs.Script.{lines_of}
 
 pub split_at_place : (p : ℕ → Bool) (xs : List ℕ) (at : ℕ) → position p xs ≡ Some at → slice_split p xs ≡ take at xs ∷ slice_split p (drop (at + 1) xs)
 split_at_place p xs at found = go (nat_lt (position_or_len p xs) (length xs)) refl found
@@ -33,3 +36,15 @@ split_at_none p xs none = go (nat_lt (position_or_len p xs) (length xs)) refl no
 -- there are at most as many pieces as bytes and one
 pub length-pieces : (p : ℕ → Bool) (xs : List ℕ) → length (slice_split p xs) ≤ length xs + 1
 length-pieces p xs = omega (arith, length-slice_split p xs, count_by-le-length p xs)
+
+-- a list without its last element is no longer
+length-strip_last : (b : ℕ) (xs : List ℕ) → length (strip_last b xs) ≤ length xs
+length-strip_last b xs = go (ends_with_byte b xs)
+  where
+    go : (ends : Bool) → length (cond ends (take (length xs - 1) xs) xs) ≤ length xs
+    go true = rw length-take (omega arith)
+    go false = omega arith
+
+-- there are at most as many lines as bytes and one
+pub length-lines : (text : List ℕ) → length (lines_of text) ≤ length text + 1
+length-lines text = omega (arith, length-pieces (λ b. b == 10) (strip_last 10 text), length-strip_last 10 text)

@@ -1,7 +1,7 @@
 -- What is wrong with a script, and how it is reported.
 use Rattle.std.specs.Prelude.{◌≡◌, ℕ, Result, Ok, Err}
 use Rattle.ss_script.specs.declared.fault.ScriptKind.{ScriptKind}
-use Rattle.ss_script.specs.declared.fault.ScriptKind.TheVariants.{NotYet}
+use Rattle.ss_script.specs.declared.fault.ScriptKind.TheVariants.{BadClient, UnknownCall, BadFields, BadNumber, BadCid, BadHex, TooManyLines, NotYet}
 use Rattle.ss_script.specs.declared.fault.ScriptFault.{ScriptFault}
 use Rattle.ss_script.specs.declared.fault.ScriptFault.TheVariants as script
 use Rattle.ss_script.specs.declared.fault.LineFault.{LineFault}
@@ -9,6 +9,13 @@ use Rattle.ss_script.specs.declared.fault.LineFault.TheVariants as line
 
 -- the number of a kind in an error line
 abbrev pub kind_number : ScriptKind → ℕ
+kind_number BadClient = 1
+kind_number UnknownCall = 2
+kind_number BadFields = 3
+kind_number BadNumber = 4
+kind_number BadCid = 5
+kind_number BadHex = 6
+kind_number TooManyLines = 8
 kind_number NotYet = 9
 
 -- the fault of a script by that of its line of this number

@@ -1,7 +1,7 @@
 -- The printed text of a history: one line an entry, `PLACE CLIENT LINE NAME = ANSWER`, with the number of the view after
--- the name where the call has one. Places count from 1. Numbers are decimal; bytes are hexadecimal in lower case, and `-`
+-- the name where the call has one: a close, a put, a get, a has and a size. Places count from 1. Numbers are decimal; bytes are hexadecimal in lower case, and `-`
 -- where there are none; a view that is never open is `-`.
-use Rattle.std.specs.Prelude.{ℕ, ◌+◌, ◌==◌, List, [], ◌∷◌, ◌++◌, if◌then◌else◌, codes, length}
+use Rattle.std.specs.Prelude.{ℕ, ◌+◌, ◌==◌, Bool, List, [], ◌∷◌, ◌++◌, if◌then◌else◌, Option, None, Some, codes, length}
 use Rattle.std.specs.List.{flat_map}
 use Rattle.std.specs.Fmt.{decimal}
 use Rattle.hex.specs.Hex.{encode_lower}
@@ -19,6 +19,15 @@ use Rattle.ss_model.specs.declared.call.PutReply.{PutReply}
 use Rattle.ss_model.specs.declared.call.PutReply.TheVariants as put
 use Rattle.ss_model.specs.declared.call.GetReply.{GetReply}
 use Rattle.ss_model.specs.declared.call.GetReply.TheVariants as get
+use Rattle.ss_model.specs.declared.call.CloseReply.{CloseReply}
+use Rattle.ss_model.specs.declared.call.CloseReply.TheVariants as close
+use Rattle.ss_model.specs.declared.call.HasReply.{HasReply}
+use Rattle.ss_model.specs.declared.call.HasReply.TheVariants as has
+use Rattle.ss_model.specs.declared.call.SizeReply.{SizeReply}
+use Rattle.ss_model.specs.declared.call.SizeReply.TheVariants as size
+use Rattle.ss_model.specs.declared.call.HeadReply.{HeadReply}
+use Rattle.ss_model.specs.declared.call.HeadReply.TheVariants as head
+use Rattle.ss_model.specs.declared.call.Info.{Info}
 
 -- a number after a space
 abbrev pub number_text : ℕ → List ℕ
@@ -26,6 +35,10 @@ number_text n = codes " " ++ decimal n
 
 abbrev pub numbers_text : List ℕ → List ℕ
 numbers_text numbers = flat_map number_text numbers
+
+-- a name and a number
+abbrev pub named_text : List ℕ → ℕ → List ℕ
+named_text name n = name ++ number_text n
 
 abbrev pub bytes_text : List ℕ → List ℕ
 bytes_text bytes = if length bytes == 0 then codes "-" else encode_lower bytes
@@ -39,12 +52,21 @@ client_text c = if c == COMPACTOR then codes " c" else number_text c
 -- the name of the call, and its view
 abbrev pub call_text : Call → List ℕ
 call_text call.OpenView = codes " open"
+call_text (call.CloseView v) = codes " close" ++ view_text v
 call_text (call.Put v pairs) = codes " put" ++ view_text v
 call_text (call.Get v cid) = codes " get" ++ view_text v
+call_text (call.Has v cid) = codes " has" ++ view_text v
+call_text (call.Size v cid) = codes " size" ++ view_text v
+call_text (call.SetHead cids) = codes " head"
+call_text call.Info = codes " info"
 
 abbrev pub view_reply_text : ViewReply → List ℕ
 view_reply_text (view.Opened n) = codes "opened" ++ numbers_text (n ∷ [])
 view_reply_text view.TooManyViews = codes "too-many-views"
+
+abbrev pub close_reply_text : CloseReply → List ℕ
+close_reply_text close.Closed = codes "closed"
+close_reply_text close.BadView = codes "bad-view"
 
 -- the number of what is wrong with bytes that are no item
 abbrev pub item_fault_number : CborKind → ℕ
@@ -78,10 +100,52 @@ get_reply_text get.NoMemory = codes "no-memory"
 get_reply_text get.DiskFault = codes "fault"
 get_reply_text (get.Found block) = codes "found " ++ bytes_text block
 
+abbrev pub has_reply_text : HasReply → List ℕ
+has_reply_text has.BadView = codes "bad-view"
+has_reply_text has.No = codes "no"
+has_reply_text has.Yes = codes "yes"
+
+abbrev pub size_reply_text : SizeReply → List ℕ
+size_reply_text size.BadView = codes "bad-view"
+size_reply_text size.NotFound = codes "not-found"
+size_reply_text (size.Size n) = codes "size" ++ numbers_text (n ∷ [])
+
+abbrev pub head_reply_text : HeadReply → List ℕ
+head_reply_text head.Empty = codes "tipset-empty"
+head_reply_text (head.TooMany n) = codes "tipset-too-many" ++ numbers_text (n ∷ [])
+head_reply_text (head.Repeated i) = codes "tipset-repeated" ++ numbers_text (i ∷ [])
+head_reply_text (head.Absent i) = codes "absent" ++ numbers_text (i ∷ [])
+head_reply_text head.NoMemory = codes "no-memory"
+head_reply_text (head.NotHeader i) = codes "tipset-not-header" ++ numbers_text (i ∷ [])
+head_reply_text (head.HeightDiffers i) = codes "tipset-height" ++ numbers_text (i ∷ [])
+head_reply_text (head.ParentsDiffer i) = codes "tipset-parents" ++ numbers_text (i ∷ [])
+head_reply_text (head.LogFull file need room) = codes "log-full" ++ numbers_text (file ∷ need ∷ room ∷ [])
+head_reply_text head.DiskFault = codes "fault"
+head_reply_text (head.Set height) = codes "head" ++ numbers_text (height ∷ [])
+
+-- the height of a head, if one was set
+abbrev pub height_text : Option ℕ → List ℕ
+height_text None = codes " -"
+height_text (Some height) = number_text height
+
+-- a flag as a number
+abbrev pub flag_number : Bool → ℕ
+flag_number flag = if flag then 1 else 0
+
+-- the counts of a store; of the settings nothing
+abbrev pub info_text : Info → List ℕ
+info_text i =
+    codes "info height" ++ (height_text i.height ++ (named_text (codes " base") i.base ++ (named_text (codes " ended") i.ended ++ (named_text (codes " hot") i.hot ++ (named_text (codes " kept") i.kept ++ (named_text (codes " views") i.views ++ (named_text (codes " running") (flag_number i.running) ++ named_text (codes " due") (flag_number i.due))))))))
+
 abbrev pub answer_text : Answer → List ℕ
 answer_text (answer.View r) = view_reply_text r
+answer_text (answer.Close r) = close_reply_text r
 answer_text (answer.Put r) = put_reply_text r
 answer_text (answer.Get r) = get_reply_text r
+answer_text (answer.Has r) = has_reply_text r
+answer_text (answer.Size r) = size_reply_text r
+answer_text (answer.Head r) = head_reply_text r
+answer_text (answer.Info r) = info_text r
 
 -- the line of the entry at this place
 unfoldable pub entry_text : ℕ → Entry → List ℕ

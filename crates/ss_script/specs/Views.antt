@@ -1,26 +1,26 @@
--- The store's numbers of the clients' views. A script names a view by the client's own count of its `open` lines.
-use Rattle.std.specs.Prelude.{◌≡◌, ℕ, ◌<◌, ◌==◌, List, [], ◌∷◌, if◌then◌else◌, slice_index_or}
-use Rattle.std.specs.List.{flat_map}
+-- The store's numbers of the clients' views. A script names a view by the client's own count of its `open` lines, from 0. The
+-- numbers of a client's views are a list: an `open` adds one at its end, `NO_VIEW` where it was refused, and a `close` that was
+-- answered so puts `NO_VIEW` in the place of the one that it closed. A client's lines change its own list alone.
+use Rattle.std.specs.Prelude.{ℕ, List, [], ◌∷◌, ◌++◌, Option, Some, None, replicate, slice_index_or, slice_set}
 use Rattle.ss_model.specs.declared.TheConstants.{NO_VIEW}
 use Rattle.ss_model.specs.declared.call.Call.{Call}
 use Rattle.ss_model.specs.declared.call.Call.TheVariants as call
 use Rattle.ss_model.specs.declared.call.Answer.{Answer}
 use Rattle.ss_model.specs.declared.call.Answer.TheVariants as answer
 use Rattle.ss_model.specs.declared.call.ViewReply.TheVariants as view
-use Rattle.ss_model.specs.declared.call.Entry.{Entry}
+use Rattle.ss_model.specs.declared.call.CloseReply.TheVariants as close
 use Rattle.ss_script.specs.declared.TheConstants.{CLIENTS}
 use Rattle.ss_script.specs.declared.call.ScriptCall.{ScriptCall}
 use Rattle.ss_script.specs.declared.call.ScriptCall.TheVariants as script
+use Rattle.ss_script.specs.declared.line.Line.{Line}
 
--- the view that an answer to an `open` gives its client: none is open where it refused
-abbrev pub views_given : Answer → List ℕ
-views_given (answer.View (view.Opened n)) = n ∷ []
-views_given (answer.View view.TooManyViews) = NO_VIEW ∷ []
-views_given _ = []
+-- the views of all clients before the first line, by the clients' numbers
+abbrev pub no_views : List (List ℕ)
+no_views = replicate CLIENTS []
 
--- what the `open` calls of a client were given, in order
-abbrev pub views_of : ℕ → List Entry → List ℕ
-views_of client h = flat_map (λ e. if e.client == client then views_given e.answer else []) h
+-- the views of a client, of those of all clients
+abbrev pub client_views : List (List ℕ) → ℕ → List ℕ
+client_views views client = slice_index_or views client []
 
 -- the store's number of the client's view k, of whose views these are the numbers
 abbrev pub view_of : List ℕ → ℕ → ℕ
@@ -29,13 +29,30 @@ view_of views k = slice_index_or views k NO_VIEW
 -- the call of a script line, its view resolved
 abbrev pub resolved : List ℕ → ScriptCall → Call
 resolved views script.OpenView = call.OpenView
+resolved views (script.CloseView k) = call.CloseView (view_of views k)
 resolved views (script.Put k pairs) = call.Put (view_of views k) pairs
 resolved views (script.Get k cid) = call.Get (view_of views k) cid
+resolved views (script.Has k cid) = call.Has (view_of views k) cid
+resolved views (script.Size k cid) = call.Size (view_of views k) cid
+resolved views (script.SetHead cids) = call.SetHead cids
+resolved views script.Info = call.Info
 
--- the views of a client, of those of all clients by their numbers
-abbrev pub client_views : List (List ℕ) → ℕ → List ℕ
-client_views views client = slice_index_or views client []
+-- the client's view that a call asks to close
+abbrev pub closing_view : ScriptCall → Option ℕ
+closing_view (script.CloseView k) = Some k
+closing_view _ = None
 
--- these are the views of the clients after these entries
-abbrev pub AreViews : List (List ℕ) → List Entry → Type 0
-AreViews views h = (client : ℕ) → client < CLIENTS → client_views views client ≡ views_of client h
+-- the views of a client after an answer to a call that asked to close this view of its, if any
+abbrev pub views_after : List ℕ → Option ℕ → Answer → List ℕ
+views_after views closing (answer.View (view.Opened n)) = views ++ n ∷ []
+views_after views closing (answer.View view.TooManyViews) = views ++ NO_VIEW ∷ []
+views_after views (Some k) (answer.Close close.Closed) = slice_set views k NO_VIEW
+views_after views closing _ = views
+
+-- the views of all clients after such an answer to this client
+abbrev pub after_answer : List (List ℕ) → ℕ → Option ℕ → Answer → List (List ℕ)
+after_answer views client closing answer = slice_set views client (views_after (client_views views client) closing answer)
+
+-- the views of all clients after a line that was answered so
+abbrev pub after_line : List (List ℕ) → Line → Answer → List (List ℕ)
+after_line views line answer = after_answer views line.client (closing_view line.call) answer

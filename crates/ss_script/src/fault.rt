@@ -7,10 +7,24 @@ ghost use Rattle.ss_script.specs.declared.fault.LineFault.TheVariants.{NoMemory 
 use ss_cid::NoMemory;
 use std::alloc::AllocFailed;
 
-/// What is wrong with a line.
+/// What is wrong with a line, by its first field at fault from left to right.
 #[derive(Clone, Copy, Debug, PartialEq, Eq)]
 pub enum ScriptKind {
-    /// The line has none of the forms that are read so far.
+    /// The client is no digit below the number of clients.
+    BadClient,
+    /// The name is that of no call.
+    UnknownCall,
+    /// A field is missing, empty or one too many.
+    BadFields,
+    /// A view is no decimal number below 2^32, or has leading zeros.
+    BadNumber,
+    /// A CID is none, in the form that its first byte asks for.
+    BadCid,
+    /// The bytes of a block are neither `-` nor hexadecimal.
+    BadHex,
+    /// The line's number is above [`LINES`](crate::LINES), whatever it holds.
+    TooManyLines,
+    /// The name is `begin` or `step`, which are not read so far; the fields after it are not judged.
     NotYet,
 }
 
@@ -23,6 +37,13 @@ impl ScriptKind {
         ensures { result ≡ kind_number self }
     {
         match self {
+            ScriptKind::BadClient => 1,
+            ScriptKind::UnknownCall => 2,
+            ScriptKind::BadFields => 3,
+            ScriptKind::BadNumber => 4,
+            ScriptKind::BadCid => 5,
+            ScriptKind::BadHex => 6,
+            ScriptKind::TooManyLines => 8,
             ScriptKind::NotYet => 9,
         }
     }

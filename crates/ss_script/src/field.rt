@@ -23,10 +23,10 @@ pub(crate) fn read_client(field: &[u8], clients: u8) -> Result<u8, ScriptKind>
     ensures below { IfOk result (λ client. client < clients) }
 {
     let [digit] = field else {
-        return Err(ScriptKind::NotYet);
+        return Err(ScriptKind::BadClient);
     };
     if *digit < b'0' || b'0' + clients <= *digit {
-        return Err(ScriptKind::NotYet);
+        return Err(ScriptKind::BadClient);
     }
     Ok(*digit - b'0')
 }
@@ -37,11 +37,11 @@ pub(crate) fn read_number(field: &[u8]) -> Result<u32, ScriptKind>
     ensures { result ≡ number_of field.now }
 {
     if !is_number(field) {
-        return Err(ScriptKind::NotYet);
+        return Err(ScriptKind::BadNumber);
     }
     match str::from_utf8(field) {
-        Ok(digits) => digits.parse().ok().ok_or(ScriptKind::NotYet),
-        Err(_) => Err(ScriptKind::NotYet),
+        Ok(digits) => digits.parse().ok().ok_or(ScriptKind::BadNumber),
+        Err(_) => Err(ScriptKind::BadNumber),
     }
 }
 
@@ -67,7 +67,7 @@ pub(crate) fn read_cid(field: &[u8]) -> Result<Cid, ScriptKind>
         Some(b'0') => cid_of_digits(field),
         _ => Cid::from_text(field).ok(),
     };
-    cid.ok_or(ScriptKind::NotYet)
+    cid.ok_or(ScriptKind::BadCid)
 }
 
 fn cid_of_digits(field: &[u8]) -> Option<Cid>
@@ -111,12 +111,9 @@ pub(crate) fn read_block(alloc: Global, field: &[u8]) -> Result<Bytes, LineFault
     if field == b"-".as_slice() {
         return Ok(Bytes::new(alloc));
     }
-    if field.is_empty() {
-        return Err(LineFault::Bad(ScriptKind::NotYet));
-    }
     match hex::decode(alloc, field) {
         Ok(bytes) => Ok(Bytes::from(bytes)),
         Err(hex::FromHexError::OutOfMemory) => Err(LineFault::NoMemory),
-        Err(_) => Err(LineFault::Bad(ScriptKind::NotYet)),
+        Err(_) => Err(LineFault::Bad(ScriptKind::BadHex)),
     }
 }

@@ -6,7 +6,7 @@
 //!
 //! The one contract: [`read_script`] gives exactly the lines of a text that the grammar accepts, and of any other the number of its
 //! first bad line and what is wrong with it, unless it runs out of memory; and [`write_entry`] appends exactly the text of the entry.
-//! [`Views`] holds what the `open` lines of each client were given, and gives the call that a line asks for.
+//! [`Views`] holds the views of each client, and gives the call that a line asks for.
 #![tactic(auto)]
 
 mod call;
@@ -29,6 +29,9 @@ pub use numbers::put_numbers;
 pub use script::read_script;
 pub use text::{PrintFault, write_entry};
 pub use views::Views;
+
+/// The most lines of a script, those without a call included.
+pub const LINES: u32 = 100_000;
 
 /// The most bytes of a script.
 pub const SCRIPT_BYTES: usize = 16_777_216;

@@ -3,12 +3,15 @@
 ghost use Rattle.std.specs.Prelude.{◌≡◌, ◌≤◌, ◌++◌, IfErr, codes, length};
 ghost use Rattle.hex.specs.Hex.{encode_lower};
 ghost use Rattle.ss_script.specs.Writing.{Writes};
-ghost use Rattle.ss_script.specs.Text.{bytes_text, view_text, client_text, call_text, view_reply_text, item_fault_number, put_reply_text, get_reply_text, answer_text, entry_text};
+ghost use Rattle.ss_script.specs.Text.{named_text, bytes_text, view_text, client_text, call_text, view_reply_text, close_reply_text, item_fault_number, put_reply_text, get_reply_text, has_reply_text, size_reply_text, head_reply_text, height_text, flag_number, info_text, answer_text, entry_text};
 
 use crate::numbers::{put_decimal, put_number, put_numbers};
 use ss_cbor::CborKind;
 use ss_io::{Failed, Sink};
-use ss_model::{Answer, COMPACTOR, Call, Entry, GetReply, NO_VIEW, PutReply, ViewReply};
+use ss_model::{
+    Answer, COMPACTOR, Call, CloseReply, Entry, GetReply, HasReply, HeadReply, Info, NO_VIEW,
+    PutReply, SizeReply, ViewReply,
+};
 use std::alloc::Global;
 
 // The bytes of a block whose digits are made and written at once.
@@ -76,8 +79,13 @@ fn put_call<K: Sink>(sink: &mut K, call: &Call) -> Result<(), Failed>
 {
     match call {
         Call::OpenView => sink.put(b" open"),
+        Call::CloseView { view } => put_name_and_view(sink, b" close", *view),
         Call::Put { view, .. } => put_name_and_view(sink, b" put", *view),
         Call::Get { view, .. } => put_name_and_view(sink, b" get", *view),
+        Call::Has { view, .. } => put_name_and_view(sink, b" has", *view),
+        Call::Size { view, .. } => put_name_and_view(sink, b" size", *view),
+        Call::SetHead { .. } => sink.put(b" head"),
+        Call::Info => sink.put(b" info"),
     }
 }
 
@@ -93,8 +101,13 @@ fn put_answer<K: Sink>(sink: &mut K, answer: &Answer) -> Result<(), Failed>
 {
     match answer {
         Answer::View(reply) => put_view_reply(sink, *reply),
+        Answer::Close(reply) => put_close_reply(sink, *reply),
         Answer::Put(reply) => put_put_reply(sink, *reply),
         Answer::Get(reply) => put_get_reply(sink, reply),
+        Answer::Has(reply) => put_has_reply(sink, *reply),
+        Answer::Size(reply) => put_size_reply(sink, *reply),
+        Answer::Head(reply) => put_head_reply(sink, *reply),
+        Answer::Info(info) => put_info(sink, info),
     }
 }
 
@@ -104,6 +117,15 @@ fn put_view_reply<K: Sink>(sink: &mut K, reply: ViewReply) -> Result<(), Failed>
     match reply {
         ViewReply::Opened(view) => put_numbers(sink, b"opened", &[u64::from(view)]),
         ViewReply::TooManyViews => sink.put(b"too-many-views"),
+    }
+}
+
+fn put_close_reply<K: Sink>(sink: &mut K, reply: CloseReply) -> Result<(), Failed>
+    ensures { Writes K.Sink sink.old sink.new result (close_reply_text reply) }
+{
+    match reply {
+        CloseReply::Closed => sink.put(b"closed"),
+        CloseReply::BadView => sink.put(b"bad-view"),
     }
 }
 
@@ -147,6 +169,82 @@ fn put_get_reply<K: Sink>(sink: &mut K, reply: &GetReply) -> Result<(), Failed>
         GetReply::DiskFault => sink.put(b"fault"),
         GetReply::Found(block) => put_found(sink, block.as_slice()),
     }
+}
+
+fn put_has_reply<K: Sink>(sink: &mut K, reply: HasReply) -> Result<(), Failed>
+    ensures { Writes K.Sink sink.old sink.new result (has_reply_text reply) }
+{
+    match reply {
+        HasReply::BadView => sink.put(b"bad-view"),
+        HasReply::No => sink.put(b"no"),
+        HasReply::Yes => sink.put(b"yes"),
+    }
+}
+
+fn put_size_reply<K: Sink>(sink: &mut K, reply: SizeReply) -> Result<(), Failed>
+    ensures { Writes K.Sink sink.old sink.new result (size_reply_text reply) }
+{
+    match reply {
+        SizeReply::BadView => sink.put(b"bad-view"),
+        SizeReply::NotFound => sink.put(b"not-found"),
+        SizeReply::Size(bytes) => put_numbers(sink, b"size", &[u64::from(bytes)]),
+    }
+}
+
+fn put_head_reply<K: Sink>(sink: &mut K, reply: HeadReply) -> Result<(), Failed>
+    ensures { Writes K.Sink sink.old sink.new result (head_reply_text reply) }
+{
+    match reply {
+        HeadReply::Empty => sink.put(b"tipset-empty"),
+        HeadReply::TooMany { n } => put_numbers(sink, b"tipset-too-many", &[u64::from(n)]),
+        HeadReply::Repeated { i } => put_numbers(sink, b"tipset-repeated", &[u64::from(i)]),
+        HeadReply::Absent { i } => put_numbers(sink, b"absent", &[u64::from(i)]),
+        HeadReply::NoMemory => sink.put(b"no-memory"),
+        HeadReply::NotHeader { i } => put_numbers(sink, b"tipset-not-header", &[u64::from(i)]),
+        HeadReply::HeightDiffers { i } => put_numbers(sink, b"tipset-height", &[u64::from(i)]),
+        HeadReply::ParentsDiffer { i } => put_numbers(sink, b"tipset-parents", &[u64::from(i)]),
+        HeadReply::LogFull { file, need, room } => {
+            put_numbers(sink, b"log-full", &[u64::from(file), need, room])
+        }
+        HeadReply::DiskFault => sink.put(b"fault"),
+        HeadReply::Set { height } => put_numbers(sink, b"head", &[height]),
+    }
+}
+
+fn put_info<K: Sink>(sink: &mut K, info: &Info) -> Result<(), Failed>
+    ensures { Writes K.Sink sink.old sink.new result (info_text info.now) }
+{
+    sink.put(b"info height")?;
+    put_height(sink, info.height)?;
+    put_named(sink, b" base", info.base)?;
+    put_named(sink, b" ended", info.ended)?;
+    put_named(sink, b" hot", info.hot)?;
+    put_named(sink, b" kept", info.kept)?;
+    put_named(sink, b" views", u64::from(info.views))?;
+    put_named(sink, b" running", flag_number(info.running))?;
+    put_named(sink, b" due", flag_number(info.due))
+}
+
+fn put_height<K: Sink>(sink: &mut K, height: Option<u64>) -> Result<(), Failed>
+    ensures { Writes K.Sink sink.old sink.new result (height_text height) }
+{
+    match height {
+        Some(height) => put_number(sink, height),
+        None => sink.put(b" -"),
+    }
+}
+
+fn flag_number(flag: bool) -> u64
+    ensures { result ≡ flag_number flag }
+{
+    u64::from(flag)
+}
+
+fn put_named<K: Sink>(sink: &mut K, name: &[u8], number: u64) -> Result<(), Failed>
+    ensures { Writes K.Sink sink.old sink.new result (named_text name.now number) }
+{
+    sink.put(name)?;
+    put_number(sink, number)
 }
 
 fn put_found<K: Sink>(sink: &mut K, bytes: &[u8]) -> Result<(), Failed>

@@ -1,19 +1,19 @@
 //! The views that the clients of a script have opened.
 
-ghost use Rattle.std.specs.Prelude.{◌≡◌, ℕ, ◌<◌, ◌==◌, if◌then◌else◌, List, [], ◌∷◌, ◌++◌, OnOk, OnErr, IfOk};
-ghost use Rattle.std.specs.Option.{option_to_list};
-ghost use Rattle.ss_model.specs.declared.call.Entry.{Entry};
-ghost use Rattle.ss_script.specs.Views.{views_given, views_of, view_of, client_views, resolved, AreViews};
+ghost use Rattle.std.specs.Prelude.{◌≡◌, ◌<◌, ◌∷◌, [], ◌++◌, OnOk, OnErr, IfOk, slice_set};
+ghost use Rattle.ss_model.specs.declared.TheConstants.{NO_VIEW};
+ghost use Rattle.ss_script.specs.Views.{no_views, client_views, view_of, resolved, after_answer};
 
 use crate::CLIENTS;
 use crate::call::ScriptCall;
 use crate::line::Line;
 use ss_cid::NoMemory;
-use ss_model::{Answer, Call, Entry, NO_VIEW, ViewReply};
+use ss_model::{Answer, Call, CloseReply, NO_VIEW, ViewReply};
 use std::alloc::Global;
 use std::marker::Model;
 
-/// What the `open` lines of each client were given: the number of a view, or `NO_VIEW`.
+/// The views of each client, which contracts see as a list of lists: for each of its `open` lines the store's number of the
+/// view, or `NO_VIEW` where none was opened or the client has closed it since.
 #[derive(Debug, Drop)]
 pub struct Views {
     by_client: Vec<Vec<u32>>,
@@ -30,9 +30,9 @@ impl Model for Views {
 }
 
 impl Views {
-    /// The views before the first entry: none.
+    /// The views before the first line: none.
     pub fn new(alloc: Global) -> Result<Views, NoMemory>
-        ensures { IfOk result (λ views. AreViews views []) }
+        ensures { IfOk result (λ views. views ≡ no_views) }
     {
         let mut by_client = Vec::with_capacity(alloc, usize::from(CLIENTS))?;
         for _client in 0..CLIENTS {
@@ -41,13 +41,17 @@ impl Views {
         Ok(Views { by_client })
     }
 
-    /// The call that a line asks for, after these entries.
+    /// The call that a line asks for. Its view is `NO_VIEW` where the line names an `open` that the client has not made, that
+    /// was refused, or whose view it has closed.
     pub fn resolve(&self, line: Line) -> Call
-        ensures { (before : List Entry) → AreViews self.now before → result ≡ resolved (views_of line.client before) line.call }
+        ensures { result ≡ resolved (client_views self.now line.client) line.call }
     {
         let Line { client, call, .. } = line;
         match call {
             ScriptCall::OpenView => Call::OpenView,
+            ScriptCall::CloseView { view } => Call::CloseView {
+                view: self.number(client, view),
+            },
             ScriptCall::Put { view, parcel } => Call::Put {
                 view: self.number(client, view),
                 parcel,
@@ -56,6 +60,16 @@ impl Views {
                 view: self.number(client, view),
                 cid,
             },
+            ScriptCall::Has { view, cid } => Call::Has {
+                view: self.number(client, view),
+                cid,
+            },
+            ScriptCall::Size { view, cid } => Call::Size {
+                view: self.number(client, view),
+                cid,
+            },
+            ScriptCall::SetHead { cids } => Call::SetHead { cids },
+            ScriptCall::Info => Call::Info,
         }
     }
 
@@ -71,40 +85,50 @@ impl Views {
         }
     }
 
-    /// Takes note of what one more entry gave its client; one of the compactor gives nothing. Where it runs out of memory nothing is
-    /// noted.
-    pub fn record(&mut self, entry: &Entry) -> Result<(), NoMemory>
-        ensures ok { OnOk result ((before : List Entry) → AreViews self.old before → AreViews self.new (before ++ entry.now ∷ [])) }
+    /// Takes note of the answer to a call of a client that asked to close `closing`, a view of that client, if any: its line's
+    /// [`closing_view`](ScriptCall::closing_view), to be asked for before the line is resolved. Out of memory nothing is noted.
+    pub fn record(
+        &mut self,
+        client: u8,
+        closing: Option<u32>,
+        answer: &Answer,
+    ) -> Result<(), NoMemory>
+        requires { client < CLIENTS }
+        ensures ok { OnOk result (self.new ≡ after_answer self.old client closing answer.now) }
         ensures err { OnErr result (self.new ≡ self.old) }
     {
-        if CLIENTS <= entry.client {
-            return Ok(());
+        match answer {
+            Answer::View(ViewReply::Opened(number)) => self.add(client, *number)?,
+            Answer::View(ViewReply::TooManyViews) => self.add(client, NO_VIEW)?,
+            Answer::Close(CloseReply::Closed) => {
+                if let Some(view) = closing {
+                    self.take_away(client, view);
+                }
+            }
+            _ => {}
         }
-        match given_view(&entry.answer) {
-            Some(number) => self.give(entry.client, number),
-            None => Ok(()),
-        }
+        Ok(())
     }
 
-    // Gives a client one view more.
-    fn give(&mut self, client: u8, number: u32) -> Result<(), NoMemory>
+    // Adds a view to those of a client.
+    fn add(&mut self, client: u8, number: u32) -> Result<(), NoMemory>
         requires { client < CLIENTS }
-        ensures ok { OnOk result ((c : ℕ) → c < CLIENTS → client_views self.new c ≡ client_views self.old c ++ (if client == c then number ∷ [] else [])) }
+        ensures ok { OnOk result (self.new ≡ slice_set self.old client (client_views self.old client ++ number ∷ [])) }
         ensures err { OnErr result (self.new ≡ self.old) }
     {
         let views = &mut self.by_client[usize::from(client)];
         views.push(number)?;
         Ok(())
     }
-}
 
-// The view that the answer to an `open` gives its client.
-fn given_view(answer: &Answer) -> Option<u32>
-    ensures { option_to_list result ≡ views_given answer.now }
-{
-    match answer {
-        Answer::View(ViewReply::Opened(number)) => Some(*number),
-        Answer::View(ViewReply::TooManyViews) => Some(NO_VIEW),
-        _ => None,
+    // Takes a view away from a client, whose other views keep their counts.
+    fn take_away(&mut self, client: u8, view: u32)
+        requires { client < CLIENTS }
+        ensures { self.new ≡ slice_set self.old client (slice_set (client_views self.old client) view NO_VIEW) }
+    {
+        let views = &mut self.by_client[usize::from(client)];
+        if let Some(number) = views.get_mut(view as usize) {
+            *number = NO_VIEW;
+        }
     }
 }

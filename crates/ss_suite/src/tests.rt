@@ -1,5 +1,6 @@
 ghost use Rattle.std.specs.Prelude.{◌<◌};
 
+mod calls;
 mod crash;
 
 use ss_app::{Exit, run_alone};

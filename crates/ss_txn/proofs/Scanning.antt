@@ -10,11 +10,8 @@ use Rattle.ss_txn.specs.declared.scan_reply.ScanReply.TheVariants.{Scanned, Noth
 use Rattle.ss_txn.specs.Marked.{Marked}
 use Rattle.ss_txn.specs.Changes.{KeepsRows, Scans, ScanDid}
 use Rattle.ss_txn.specs.Unread.{ProtectsFrom}
-use Rattle.ss_txn.proofs.Marking.{blackens_marked, blackens_rows}
+use Rattle.ss_txn.proofs.Marking.{row_in, blackens_marked, blackens_rows}
 use Rattle.ss_txn.proofs.Blackening.{blackens_popped, popped_stays, put_back_same, coloured_by}
-
-abbrev pub row_in : Option Mark → Option ℕ
-row_in = option_map (λ (mark : Mark). mark.row)
 
 -- the row of this CID was grey, and is out
 pub record Popped (cid : List ℕ) (row : ℕ) (old popped : MarkTable) : Type 0 where

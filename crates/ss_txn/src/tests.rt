@@ -38,7 +38,7 @@ fn rows_for(alloc: Global, parcel: &Parcel) -> Result<Marks, RowFault>
     Ok(marks)
 }
 
-// Scans until nothing is grey, and tells how many rows were read.
+// Scans until nothing is grey, and returns how many rows were read.
 fn scan_all(
     txn: &mut Txn,
     alloc: Global,

@@ -53,7 +53,7 @@ impl Txn {
     }
 
     /// Protects a CID: a stored one is shaded, and of an identity CID whatever its own block is followed to is protected
-    /// in the same way. One that is neither stays as it is; whoever stores it later has to protect it then.
+    /// in the same way. One that is neither stays as it is; it has to be protected when it is stored.
     pub fn protect(&self, marks: &mut Marks, cid: &Cid)
         ensures protected { Protects self.now (cid.now ∷ []) marks.old marks.new }
         ensures rows { KeepsRows marks.old marks.new }

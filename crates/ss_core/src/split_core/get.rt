@@ -1,6 +1,6 @@
 //! Gets.
 
-ghost use Rattle.std.specs.Prelude.{◌≡◌, Option, IsTrue, MatchResult};
+ghost use Rattle.std.specs.Prelude.{◌≡◌, false, Option, IsTrue, MatchResult};
 ghost use Rattle.ss_records.specs.declared.record.Record.{Record};
 ghost use Rattle.ss_model.specs.declared.call.GetReply.TheVariants as get;
 
@@ -12,6 +12,8 @@ use ss_model::GetReply;
 use std::alloc::Global;
 
 impl<D: Disk> SplitCore<D> {
+    ghost use Rattle.ss_disk.specs.Disk.{Same};
+    ghost use Rattle.ss_disk.specs.Calls.{Goes};
     ghost use Rattle.ss_model.specs.State.{State};
     ghost use Rattle.ss_model.specs.declared.call.Call.TheVariants as call_kind;
     ghost use Rattle.ss_model.specs.declared.call.Answer.TheVariants as answer;
@@ -26,6 +28,8 @@ impl<D: Disk> SplitCore<D> {
     pub fn get(&mut self, alloc: Global, view: u32, cid: &Cid) -> GetReply
         ensures told { IsTrue D.told → (s : State) (doubt : Option Record) → StandsFor self.old s doubt → Steps self.old self.new s doubt (call_kind.Get view cid.now) (answer.Get result) }
         ensures made { Makes self.old self.new (call_kind.Get view cid.now) (answer.Get result) }
+        ensures reads { self.old.hot.log.unsure ≡ false → Goes D.Disk Same self.old.disk self.new.disk }
+        ensures memory { result ≡ get.NoMemory → self.old.hot.log.unsure ≡ false → self.new.disk ≡ self.old.disk }
     {
         if !self.views.contains(view) {
             return GetReply::BadView;
@@ -43,6 +47,24 @@ impl<D: Disk> SplitCore<D> {
             Ok(Some(block)) => GetReply::Found(block),
             Ok(None) => GetReply::NotFound,
             Err(fault) => get_fault(fault),
+        }
+    }
+
+    // A get, answered twice.
+    pub(super) fn get_twice(&mut self, alloc: Global, view: u32, cid: &Cid) -> (GetReply, GetReply)
+        ensures twice { result.0 ≡ result.1 }
+        ensures told { IsTrue D.told → (s : State) (doubt : Option Record) → StandsFor self.old s doubt → Steps self.old self.new s doubt (call_kind.Get view cid.now) (answer.Get result.0) }
+        ensures made { Makes self.old self.new (call_kind.Get view cid.now) (answer.Get result.0) }
+    {
+        match self.get(alloc, view, cid) {
+            GetReply::Found(block) => match block.duplicate() {
+                Ok(copy) => (GetReply::Found(block), GetReply::Found(copy)),
+                Err(NoMemory) => (GetReply::NoMemory, GetReply::NoMemory),
+            },
+            GetReply::BadView => (GetReply::BadView, GetReply::BadView),
+            GetReply::NotFound => (GetReply::NotFound, GetReply::NotFound),
+            GetReply::NoMemory => (GetReply::NoMemory, GetReply::NoMemory),
+            GetReply::DiskFault => (GetReply::DiskFault, GetReply::DiskFault),
         }
     }
 }

@@ -1,12 +1,11 @@
-use Rattle.std.proofs.Common.{[], ◌∷◌, ◌++◌, ◌+◌, ◌≡◌, length, false, refl, sym, ap, arith, subst}
-use Rattle.std.specs.Prelude.{replicate}
+use Rattle.std.proofs.Common.{[], ◌∷◌, ◌++◌, length, false, refl, sym, ap, arith}
 use Rattle.ss_app.proofs.Steps.{begun, stopped, cut_of, moved_on, all_made, all_done}
-use Rattle.ss_script.proofs.ClientViews.{no_views}
+use Rattle.ss_script.specs.Views.{no_views}
 use Rattle.ss_app.proofs.run.make_calls.Goals as goal
 
 pub returns-in_default : goal.returns-in_default
 returns-in_default g c = λ was story.
-    rw c.into_disk.ensures (stopped was c.args.core false [] _ _ _ _ (cut_of was c.args.core (replicate 8 []) 0 false [] _ _ (begun was c.args.core (replicate 8 []) 0 false _ story (no_views, refl, refl))) refl)
+    rw c.into_disk.ensures (stopped was c.args.core false [] _ _ _ _ (cut_of was c.args.core no_views 0 false [] _ _ (begun was c.args.core no_views 0 false _ story (refl, refl, refl))) refl)
 
 pub loop-line-init : goal.loop-line-init
 loop-line-init g c =

@@ -2,7 +2,8 @@ use Rattle.std.proofs.Common.{◌≡◌, true, false, true≢false, None, Err, r
 use Rattle.std.specs.Prelude.{is_some}
 use Rattle.std.specs.FinMap as finite_map
 use Rattle.std.specs.FinSet as finite_set
-use Rattle.ss_disk.specs.Disk.{Changes}
+use Rattle.ss_disk.specs.Disk.{Same, Changes}
+use Rattle.ss_disk.specs.Calls.{Goes}
 use Rattle.ss_disk.proofs.Goes.{then_same}
 use Rattle.ss_store.specs.declared.fault.StoreFault.TheVariants as fault
 use Rattle.ss_hot.specs.Store.{Hot}
@@ -15,10 +16,10 @@ use Rattle.ss_core.specs.Calls.{Steps, Makes}
 use Rattle.ss_core.specs.Fault.{get_fault}
 use Rattle.ss_core.specs.StandsFor.{HasEitherState}
 use Rattle.ss_core.proofs.Gets.{digest_lawful, fetched_is, none_there, bad_view, not_found, own_digest, not_settled, is_found, is_not_read, is_wanting, held_by_error}
-use Rattle.ss_core.proofs.Made.{get_found, get_failed, get_wanting, counted_kept, rose_on}
+use Rattle.ss_core.proofs.Made.{get_found, get_failed, get_wanting, counted_kept, rose_on, same_disk, digest_makes}
 use Rattle.ss_core.proofs.PutSteps.{held_is}
 use Rattle.ss_core.proofs.Settling.{stands_read, leaves_read}
-use Rattle.ss_core.proofs.Stops.{get_steps, get_makes, either_stop}
+use Rattle.ss_core.proofs.Stops.{get_steps, get_makes, either_stop, get_wanted}
 use Rattle.ss_core.proofs.split_core.SplitCore.get.Goals as goal
 use Rattle.ss_core.proofs.split_core.SplitCore.get.Goals.{else-unsure-via-then-unsure+else-not-has, else-unsure-via-else-unsure}
 
@@ -102,5 +103,35 @@ returns-in-Err-get-clause-made g c =
     let file = ap (λ (h : Hot). h.log.file) c.settle.ensures.same in
     let touches = then_same g.D.Disk c.args.self.now.disk c.settle.new.self.disk c.get.new.disk (Changes c.args.self.now.hot.log.file (λ _ _. Unit {0})) c.settle.ensures.touches c.get.ensures.goes in
     get_makes e.fault c.get_fault-in-Err-get.ensures (either_stop e.fault (e.ensures.errors e.fault refl))
-    (λ wanting. get_wanting g.D.Disk c.args.self.now _ settings file touches c.args.view c.args.cid.now c.in_default.ensures (ap g.D.Disk.faults (e.ensures.memory (ap Err wanting)) ∙ kept) (λ sure. e.ensures.memory (ap Err wanting) ∙ (c.settle.ensures.sure sure).2))
+    (λ wanting. get_wanting g.D.Disk c.args.self.now _ settings file touches c.args.view c.args.cid.now c.in_default.ensures (ap g.D.Disk.faults (e.ensures.memory (ap Err wanting)) ∙ kept) (λ sure. same_disk g.D.Disk _ _ (e.ensures.memory (ap Err wanting) ∙ (c.settle.ensures.sure sure).2)))
     (λ failed. get_failed g.D.Disk c.args.self.now _ settings file touches c.args.view c.args.cid.now c.in_default.ensures (rose_on (g.D.Disk.faults c.args.self.now.disk) (g.D.Disk.faults c.settle.new.self.disk) _ kept (e.ensures.counts.rose (ap Err failed))))
+
+pub returns-then-not-contains-clause-reads : goal.returns-then-not-contains-clause-reads
+returns-then-not-contains-clause-reads g c = λ sure. same_disk g.D.Disk _ _ refl
+
+pub returns-in-Some-clause-made : goal.returns-in-Some-clause-made
+returns-in-Some-clause-made g c = digest_makes g.D.Disk c.args.self.now c.args.view c.args.cid.now c.in-Some.digest.now c.found.result c.from_slice.result c.in-Some.ensures c.found.ensures
+
+pub returns-in-Some-clause-reads : goal.returns-in-Some-clause-reads
+returns-in-Some-clause-reads g c = λ sure. same_disk g.D.Disk _ _ refl
+
+pub returns-then-not-has-clause-reads : goal.returns-then-not-has-clause-reads
+returns-then-not-has-clause-reads g c = λ sure. same_disk g.D.Disk _ _ refl
+
+pub returns-in-Err-clause-reads : goal.returns-in-Err-clause-reads
+returns-in-Err-clause-reads g c = λ sure. same_disk g.D.Disk _ _ (c.settle.ensures.sure sure).2
+
+pub returns-in-Err-clause-memory : goal.returns-in-Err-clause-memory
+returns-in-Err-clause-memory g c = λ _ sure. (c.settle.ensures.sure sure).2
+
+pub returns-in-Ok-Some-clause-reads : goal.returns-in-Ok-Some-clause-reads
+returns-in-Ok-Some-clause-reads g c = λ sure. subst (λ d. Goes g.D.Disk Same d c.get.new.disk) (c.settle.ensures.sure sure).2 c.get.ensures.goes
+
+pub returns-in-Ok-None-clause-reads : goal.returns-in-Ok-None-clause-reads
+returns-in-Ok-None-clause-reads g c = λ sure. subst (λ d. Goes g.D.Disk Same d c.get.new.disk) (c.settle.ensures.sure sure).2 c.get.ensures.goes
+
+pub returns-in-Err-get-clause-reads : goal.returns-in-Err-get-clause-reads
+returns-in-Err-get-clause-reads g c = λ sure. subst (λ d. Goes g.D.Disk Same d c.get.new.disk) (c.settle.ensures.sure sure).2 c.get.ensures.goes
+
+pub returns-in-Err-get-clause-memory : goal.returns-in-Err-get-clause-memory
+returns-in-Err-get-clause-memory g c = λ is sure. c.in-Err-get.ensures.memory (ap Err (get_wanted c.in-Err-get.fault (sym c.get_fault-in-Err-get.ensures ∙ is))) ∙ (c.settle.ensures.sure sure).2

@@ -1,9 +1,8 @@
 use Rattle.std.proofs.Common.{◌≡◌, List, ℕ, sym, ap, subst, ◌∙◌}
-use Rattle.std.specs.Prelude.{option_map}
 use Rattle.ss_marks.specs.declared.colour.Colour.TheVariants.{Out}
-use Rattle.ss_marks.specs.Marks.{Mark, mark_of}
+use Rattle.ss_marks.specs.Marks.{mark_of}
 use Rattle.ss_txn.specs.Changes.{Blackens}
-use Rattle.ss_txn.proofs.Marking.{blackens_marked, blackens_rows}
+use Rattle.ss_txn.proofs.Marking.{row_in, blackens_marked, blackens_rows}
 use Rattle.ss_txn.proofs.Blackening.{out_after, blackens_out, out_is_shaded}
 use Rattle.ss_txn.proofs.transaction.Txn.accept.Goals as goal
 
@@ -13,7 +12,7 @@ blacken-requires c = out_after c.self.inside.edge c.as_slice.result.now c.args.r
 pub returns-clause-blackened : goal.returns-clause-blackened
 returns-clause-blackened c cid is =
     let out = c.requires.out in
-    let here : out.cid ≡ cid = c.each_row_has_one_cid.ensures out.cid cid c.args.row (ap (option_map (λ (mark : Mark). mark.row)) out.is) is in
+    let here : out.cid ≡ cid = c.each_row_has_one_cid.ensures out.cid cid c.args.row (ap row_in out.is) is in
     subst (λ edge. Blackens edge Out cid c.args.row c.args.links.now c.args.marks.now c.blacken.new.self) c.self.view_is
     (subst (λ (links : List (List ℕ)). Blackens c.self.inside.edge Out cid c.args.row links c.args.marks.now c.blacken.new.self) c.as_slice.ensures
     (blackens_out c.self.inside.edge c.as_slice.result.now c.args.row c.args.marks.now c.protect_each.new.marks c.blacken.new.self c.protect_each.ensures cid
@@ -26,4 +25,4 @@ returns-clause-marked c kept roots cid is follows m =
 pub returns-clause-rows : goal.returns-clause-rows
 returns-clause-rows c =
     let out = c.requires.out in
-    blackens_rows _ Out out.cid c.args.row _ c.args.marks.now c.blacken.new.self (returns-clause-blackened c out.cid (ap (option_map (λ (mark : Mark). mark.row)) out.is))
+    blackens_rows _ Out out.cid c.args.row _ c.args.marks.now c.blacken.new.self (returns-clause-blackened c out.cid (ap row_in out.is))

@@ -2,7 +2,8 @@ use Rattle.std.proofs.Common.{sym, ap, subst, ◌∙◌, is_some}
 use Rattle.ss_txn.specs.Changes.{ScanDid}
 use Rattle.ss_txn.proofs.Following.{known_row}
 use Rattle.ss_txn.proofs.Shading.{colour_in}
-use Rattle.ss_txn.proofs.Scanning.{row_in, popped_of, popped_live, out_when_read, out_when_unread, scans_by, unscanned_by, scan_marked, scan_rows}
+use Rattle.ss_txn.proofs.Marking.{row_in}
+use Rattle.ss_txn.proofs.Scanning.{popped_of, popped_live, out_when_read, out_when_unread, scans_by, unscanned_by, scan_marked, scan_rows}
 use Rattle.ss_txn.proofs.transaction.Txn.scan_one.Goals as goal
 use Rattle.ss_txn.proofs.transaction.Txn.scan_one.Goals.{in-Ok, in-Err-Fault, in-Err-NoMemory}
 

@@ -23,9 +23,9 @@ ANY_ITEMS = [b"\xf6", b"\xfb" + bytes(8), array([b"\0"] * 30), b"\xa1\x80\x81\x8
 SAID = {"pread": "read", "pwrite": "write", "fdatasync": "sync"}
 
 
-def info(height="-", kept=0, views=1, due=0):
+def info(height="-", kept=0, views=1, due=0, base=0, ended=0):
     """The answer to an info."""
-    return f"info height {height} base 0 ended 0 hot {kept} kept {kept} views {views} running 0 due {due}"
+    return f"info height {height} base {base} ended {ended} hot {kept} kept {kept} views {views} running 0 due {due}"
 
 
 def tipset(height, parents=(), count=2, **more):
@@ -160,6 +160,22 @@ def due(trial):
         lines = heads_and_counts([each] for each in blocks)
         expect(f"heads at the threshold {threshold}", store.answers_to(INFO, *lines), [info(kept=kept), *wanted])
         expect(f"the next run at the threshold {threshold}", store.answers_to(INFO), [info(HEIGHTS - 1, kept, due=1)])
+
+
+@check("a log that has a base tells it in each run, and a compaction is due from `threshold` above it on")
+def due_above_a_base(trial):
+    store, base, ended, threshold = new_store(trial, "base", "threshold=10"), 100, 7, 10
+    body = b"\x06" + base.to_bytes(8, "big") + ended.to_bytes(8, "big")
+    with open(os.path.join(store.folder, HOT), "r+b") as log:
+        log.seek(-1, os.SEEK_END)
+        log.write(b"\xa5" + len(body).to_bytes(4, "big") + body + b"\0")
+    heights = [0, threshold, base + threshold - 1, base + threshold, base + threshold + 1, base - 1]
+    blocks = [header_block(height) for height in heights]
+    store.answers_to(*map(put_line, blocks))
+    counts = {"kept": len(blocks), "base": base, "ended": ended}
+    wanted = [answer for height in heights for answer in (f"head {height}", info(height, due=int(height >= base + threshold), **counts))]
+    expect("heads above a base", store.answers_to(INFO, *heads_and_counts([each] for each in blocks)), [info(**counts), *wanted])
+    expect("the next run", store.answers_to(INFO), [info(heights[-1], **counts)])
 
 
 @check("views open up to 1024, those that are closed open again from the least number on, and the next run has none")

@@ -56,10 +56,10 @@ def compiles(command, environment):
     return subprocess.run(command, cwd=where, env=environment, stderr=subprocess.PIPE, check=False).returncode == 0
 
 
-def compiled(folder):
+def compiled(folder, table=COMPILE):
     """The peers by their names: the program of each."""
     peers = {}
-    for name, (compiler, *words) in COMPILE.items():
+    for name, (compiler, *words) in table.items():
         program = os.path.join(folder, f"peer-{len(peers)}")
         command = [compiler, *FLAGS[compiler], "-o", program, *words]
         environment = {**os.environ, **GO, "GOCACHE": os.path.join(folder, "go")}
@@ -228,10 +228,10 @@ def gets(folder, peers, blocks, store, stores):
     tell(f"{len(order):,} gets in random order, of {len(blocks):,} blocks", times, others, {"LMDB": MOST_OVER_LMDB})
 
 
-def memory_of(store, folder):
-    """The most memory that opening a store takes, in bytes."""
+def memory_of(store, folder, words=("trace",), source=os.devnull):
+    """The most memory that a run of the program on a store takes, in bytes; by default that of opening it."""
     path = os.path.join(folder, "memory")
-    run([TIME, "-f", "%M", "-o", path, PROGRAM, "trace"], os.devnull, store)
+    run([TIME, "-f", "%M", "-o", path, PROGRAM, *words], source, store)
     with open(path, encoding="ascii") as file:
         return 1024 * int(file.read())
 

@@ -2,14 +2,21 @@
 import errno
 import re
 
+from cars import car, import_into
 from checking import check, expect, expect_that
 from examples import AFTER, read
+from formats import random_block
+from headers import header_block
+from imports import imported, info_lines
 from interposed import run
+from logs import kept
+from model import Model
 from stores import EXISTS, INIT, MADE, Store, answers, copied, new_folder, new_store, script_of
 
 # The statuses that a lack of memory can end a run with, and their lines. A file whose path finds no memory is not opened.
 LINES = {3: b"error: no memory", 6: b"error: disk fault"}
 REASONS = {6: rb"splitstore: [a-z.-]+: open: out of memory\n"}
+ENDS = [line + b"\n" for line in LINES.values()]
 
 
 def without(trial, number, folder, *arguments, script=""):
@@ -73,3 +80,25 @@ def init_without_memory(trial):
         ended = store.trace(read("examples/first.script"))
         expect(f"the first example after {what}", ended.out, read("examples/first.out").encode("ascii"))
     return f"{len(numbers)} runs"
+
+
+@check("each allocation of import and info failing in turn: a status and its line, whole puts are kept, and an import again ends well", True)
+def imports_without_memory(trial):
+    fresh, top = new_store(trial, "fresh"), header_block(4)
+    # each is put alone, the last one with the header
+    blocks = [*(random_block(trial.random, 2_200_000) for _ in range(3)), top]
+    data, model = car(blocks, [top.cid]), Model()
+    import_into(model, data)
+    prefixes = [[each.cid for each in blocks[:count]] for count in (0, 1, 2, 4)]
+    numbers = allocations(trial, copied(trial, fresh).folder, "import", script=data)
+    for number in numbers:
+        store, what = copied(trial, fresh), f"an import without its allocation {number}"
+        expect_end(what, without(trial, number, store.folder, "import", script=data), 0)
+        cids = list(kept(store.log()))
+        expect_that(cids in prefixes, f"{what} keeps {len(cids)} blocks")
+        expect(f"an import after {what}", store.import_car(data), imported(4, 4 - len(cids), 4))
+    for number in allocations(trial, store.folder, "info"):
+        ended = without(trial, number, store.folder, "info")
+        expect_end(f"info without its allocation {number}", ended, 0)
+        expect_that(ended.out in (info_lines(model).encode("ascii"), *ENDS), f"info without its allocation {number} prints {ended.out!r}")
+    return f"{len(numbers)} runs of import"

@@ -85,7 +85,7 @@ def examples(trial):
         for each in [*AFTER.get(name, []), name]:
             ended = store.trace(read(f"examples/{each}.script"))
             expect(f"the example {each}", ended, Ended(0, read(f"examples/{each}.out").encode("utf-8"), b""))
-    files = {"README.md", "run", *(f"{name}.{kind}" for name in names for kind in ("script", "out"))}
+    files = {"README.md", "run", "chain.car", *(f"{name}.{kind}" for name in names for kind in ("script", "out"))}
     expect("the files of examples/", sorted(os.listdir(os.path.join(TOP, "examples"))), sorted(files))
     return f"{len(names)} examples"
 

@@ -50,7 +50,7 @@ class Program:
         return subprocess.Popen([self.path, *arguments], cwd=folder, env=self.environment, preexec_fn=prepare, **streams)
 
     def run(self, folder, *arguments, script="", before=()):
-        """Runs the program in a folder, with a script as its standard input."""
+        """Runs the program in a folder, with a script, or bytes, as its standard input."""
         return finish(self.start(folder, *arguments, before=before, stdin=subprocess.PIPE), script)
 
     def run_on(self, path, folder, *arguments):
@@ -59,9 +59,13 @@ class Program:
             return finish(self.start(folder, *arguments, stdin=file))
 
 
+def as_bytes(text):
+    return text if isinstance(text, bytes) else text.encode("ascii")
+
+
 def finish(process, script=""):
     """Gives a run its input, reads what it writes, and waits for its end."""
-    given = script.encode("ascii") if process.stdin else None
+    given = as_bytes(script) if process.stdin else None
     try:
         out, err = process.communicate(given, timeout=SECONDS)
     except subprocess.TimeoutExpired:
@@ -129,6 +133,12 @@ class Store:
     def trace(self, script, before=()):
         return self.program.run(self.folder, "trace", script=script, before=before)
 
+    def import_car(self, data, *words, before=()):
+        return self.program.run(self.folder, "import", *words, script=data, before=before)
+
+    def info(self, before=()):
+        return self.program.run(self.folder, "info", before=before)
+
     def answers_to(self, *lines):
         """The answers to these lines after an `open`, in a run that ends well."""
         ended = self.trace(script_of(*lines))
@@ -187,10 +197,10 @@ def copied(trial, store):
 
 
 def written(trial, text, name="script"):
-    """The path of a file with this text."""
+    """The path of a file with this text, or these bytes."""
     path = os.path.join(trial.folder, name)
-    with open(path, "w", encoding="ascii") as file:
-        file.write(text)
+    with open(path, "wb") as file:
+        file.write(as_bytes(text))
     return path
 
 

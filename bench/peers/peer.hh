@@ -1,4 +1,5 @@
-// What the peers share: the blocks, the clock and the commands. Each peer has a class Peer and ends with PEER_MAIN.
+// What the peers share: the blocks, the clock and the commands. Each peer has a class Peer and ends with PEER_MAIN. Compiled
+// with IMPORTS, a peer has the command of importing.hh instead.
 //
 //     PEER put FOLDER BLOCKS BATCH   makes a store in the folder and puts the blocks, BATCH at a time, each batch synced
 //     PEER get FOLDER BLOCKS         gets each block of the file by its key, in order, and prints `found HEX` for each
@@ -112,5 +113,11 @@ template <typename Peer> int peer_main(int words, char **word) {
     return 0;
 }
 
+#ifdef IMPORTS
+#include "importing.hh"
+#define PEER_MAIN \
+    int main(int words, char **word) { return import_main<Peer>(words, word); }
+#else
 #define PEER_MAIN \
     int main(int words, char **word) { return peer_main<Peer>(words, word); }
+#endif

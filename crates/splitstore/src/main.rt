@@ -2,15 +2,18 @@
 //! disk failed.
 #![tactic(auto)]
 
+mod progress;
+
+use progress::Watched;
 use ss_app::run_alone;
 use ss_disk::FolderDisk;
 use ss_io::{StdSink, StdSource};
 use std::alloc::AllocError;
-use std::env;
 use std::fmt::Display;
-use std::io::{self, BufWriter, ErrorKind, Write};
+use std::io::{self, BufWriter, ErrorKind, IsTerminal, Write};
 use std::process::ExitCode;
 use std::rt::Env;
+use std::{env, fs};
 
 /// The bytes of output that are buffered before they are written.
 const OUTPUT_BYTES: usize = 65536;
@@ -39,11 +42,34 @@ fn run(rt: &HostRuntime) -> Option<u8> {
     let mut source = StdSource::new(rt.reader());
     let output = BufWriter::with_capacity(rt.alloc(), OUTPUT_BYTES, io::writer(rt)).ok()?;
     let mut sink = StdSink::new(output);
-    let exit = run_alone(rt.alloc(), words.as_slice(), &mut source, &mut sink, disk);
+    let exit = if is_watched(rt, words.as_slice()) {
+        let mut watched = Watched::new(rt, &mut source, input_len(rt));
+        run_alone(rt.alloc(), words.as_slice(), &mut watched, &mut sink, disk)
+    } else {
+        run_alone(rt.alloc(), words.as_slice(), &mut source, &mut sink, disk)
+    };
     report(rt, "", exit.disk.failure());
     report(rt, "standard input: ", source.failure());
     report(rt, "standard output: ", sink.failure());
     Some(exit.status)
+}
+
+// Whether the run is an import that is watched: its standard error is a terminal, and the environment does not turn progress
+// off.
+fn is_watched(rt: &HostRuntime, words: &[String]) -> bool {
+    let is_import = words.first().is_some_and(|word| word.as_str() == "import");
+    let is_off = env::var(rt, "SPLITSTORE_PROGRESS").is_ok_and(|value| value.as_str() == "no");
+    is_import && !is_off && rt.stderr().is_terminal()
+}
+
+// How many bytes standard input has, where it is a file.
+fn input_len(rt: &HostRuntime) -> Option<u64> {
+    let input = fs::metadata(rt, "/dev/stdin").ok()?;
+    if input.is_file() {
+        Some(input.len())
+    } else {
+        None
+    }
 }
 
 // Says why something failed, where it has. That standard error takes the line is not needed for anything.

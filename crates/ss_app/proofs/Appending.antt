@@ -1,7 +1,8 @@
 -- One put after another.
-use Rattle.std.proofs.Common.{ℕ, List, [], ◌++◌, Option, Some, None, Result, Ok, Err, sym, ap, ◌∙◌, append_assoc}
+use Rattle.std.proofs.Common.{ℕ, List, [], ◌++◌, Option, Some, None, Result, Ok, Err, sym, ap, ◌∙◌, append_assoc, subst}
 use Rattle.std.proofs.lemmas.List.{append-nil}
-use Rattle.std.specs.Io.KnownBytes.{Appends}
+use Rattle.std.specs.Io.KnownBytes.{Appends, Keeps}
+use Rattle.ss_io.proofs.Told.{Appends-none}
 use Rattle.ss_io.specs.Written.{AppendsFront, PutAppends}
 
 pub appends_none : (w : Option (List ℕ)) → Appends w w []
@@ -30,3 +31,8 @@ front_whole u v xs h = (xs, [], sym (append-nil xs), h)
 pub put_behind : {E : Type 0} (u v w : Option (List ℕ)) (xs ys : List ℕ) (r : Result (Unit {0}) E) → Appends u v xs → PutAppends v w r ys → PutAppends u w r (xs ++ ys)
 put_behind u v w xs ys (Ok x) first second = appends_more u v w xs ys first second
 put_behind u v w xs ys (Err e) first second = front_behind u v w xs ys first second
+
+-- the bytes were put, and what was written is kept
+pub put_kept : {E : Type 0} (u v w : Option (List ℕ)) (xs : List ℕ) (r : Result (Unit {0}) E) → Appends u v xs → Keeps v w → PutAppends u w r xs
+put_kept u v w xs (Ok x) first kept = subst (Appends u w) (append-nil xs) (appends_more u v w xs [] first (Appends-none v w kept))
+put_kept u v w xs (Err e) first kept = front_whole u w xs (subst (Appends u w) (append-nil xs) (appends_more u v w xs [] first (Appends-none v w kept)))

@@ -18,15 +18,17 @@ use Rattle.ss_app.specs.declared.ending.Ending.{Ending}
 use Rattle.ss_app.specs.declared.ending.Ending.TheVariants.{Done, NoMemory, BadScript}
 use Rattle.ss_app.specs.declared.ending.Ending.TheVariants as ends
 use Rattle.ss_app.specs.Ending.{line_of, status_of, ending_of_open}
-use Rattle.ss_app.specs.History.{IsFulfilled, faults_in, is_refused}
-use Rattle.ss_app.specs.Outcome.{Says, Reads, Traced, CallsMade, HasReason, CountsSource, CountsDisk, IsWhole, IsLegalFrom, IsValidTrace}
+use Rattle.ss_history.specs.History.{IsFulfilled, faults_in, is_refused}
+use Rattle.ss_app.specs.Outcome.{Reads, Traced, CallsMade, HasReason, CountsSource, CountsDisk, IsWhole, IsValidTrace}
+use Rattle.ss_app.specs.World.{Says}
+use Rattle.ss_history.specs.Story.{IsLegalFrom}
 use Rattle.ss_script.specs.Views.{no_views}
 use Rattle.ss_app.specs.Run.{InOrder}
 use Rattle.ss_app.specs.World.{World}
 use Rattle.ss_app.proofs.Appending.{front_of_more, front_whole}
-use Rattle.ss_app.proofs.Fulfilled.{fulfilled, no_faults, err_or_ok, oks}
+use Rattle.ss_history.proofs.Fulfilled.{fulfilled, no_faults, err_or_ok, oks}
 use Rattle.ss_app.proofs.Sayings.{says_behind, none_counted}
-use Rattle.ss_app.proofs.Still.{same_disk, same_touches}
+use Rattle.ss_history.proofs.Still.{same_disk, same_touches}
 
 is_whole : (ending : Ending) (unprinted : List ℕ) → (ending ≡ Done → unprinted ≡ []) → (ending ≡ Done) ⊎ (ending ≡ NoMemory) → IsWhole ending unprinted
 is_whole ending unprinted whole (inl done) = subst (λ e. IsWhole e unprinted) (sym done) (whole done)
@@ -43,6 +45,9 @@ whole_of_none ends.StoreExists = tt
 whole_of_none (ends.Damaged file at) = tt
 whole_of_none (BadScript line kind) = tt
 whole_of_none ends.TooLong = tt
+whole_of_none (ends.NotImported fault) = tt
+whole_of_none (ends.Imported imported) = tt
+whole_of_none (ends.Informed info) = tt
 
 too_many : (n most : ℕ) → most < n → n ≤ most → ⊥
 too_many n most more few = omega (arith, more, few)
@@ -91,6 +96,9 @@ module _ {D : Type 0} (disk : Ghosts D) (old new : World D) (status : ℕ) where
       by (ends.Damaged file at) reads said = absurd reads
       by (BadScript line kind) reads said = no_call (BadScript line kind) goes (refl, reads.0) reads.1 (none_counted _ _ sound)
           (λ script lines valid. absurd (err_or_ok _ _ _ (reads.0 script valid.told).1 valid.asks.1)) said
+      by (ends.NotImported fault) reads said = absurd reads
+      by (ends.Imported imported) reads said = absurd reads
+      by (ends.Informed info) reads said = absurd reads
       by ends.TooLong reads said = no_call ends.TooLong goes (refl, reads.0) reads.1 (none_counted _ _ sound) (λ script lines valid. absurd (too_many _ SCRIPT_BYTES (reads.0 script valid.told) valid.asks.0)) said
 
   -- the store is not opened

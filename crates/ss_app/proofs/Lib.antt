@@ -1,10 +1,11 @@
 pub mod Appending
 pub mod Endings
-pub mod Fulfilled
+pub mod ImportFaults
+pub mod ImportRefused
+pub mod Imports
 pub mod Refused
 pub mod Sayings
 pub mod Steps
-pub mod Still
 pub mod WordLimits
 pub mod WordNumbers
 pub mod WordSpellings

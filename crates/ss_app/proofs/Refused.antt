@@ -1,5 +1,5 @@
 -- Which statuses a run comes to, where the script is good: what is wrong with the store, or nothing.
-use Rattle.std.proofs.Common.{◌≡◌, ◌⊎◌, inl, inr, ⊎_elim, ℕ, ◌<◌, ◌≤◌, List, [], Some, Result, Ok, Err, refl, sym, ap, ◌∙◌, subst, arith}
+use Rattle.std.proofs.Common.{◌≡◌, ◌⊎◌, inl, inr, ⊎_elim, ℕ, min, ◌+◌, ◌-◌, ◌^◌, ◌<◌, ◌≤◌, Bool, List, [], Some, Result, Ok, Err, refl, sym, ap, ◌∙◌, subst, arith}
 use Rattle.std.specs.Prelude.{IsTrue}
 use Rattle.ss_disk.specs.Disk.{Rose}
 use Rattle.ss_disk.specs.declared.disk.Disk.{Ghosts}
@@ -10,18 +10,27 @@ use Rattle.ss_app.specs.declared.TheConstants.{SCRIPT_BYTES}
 use Rattle.ss_script.specs.declared.line.Line.{Line}
 use Rattle.ss_app.specs.declared.ending.Ending.{Ending}
 use Rattle.ss_app.specs.declared.ending.Ending.TheVariants as ends
-use Rattle.ss_app.specs.Ending.{status_of}
-use Rattle.ss_open.specs.Opening.{HasNoStore, IsDamagedStore}
-use Rattle.ss_app.specs.Outcome.{Says, Traced, Inited, Writes, Ran, HasReason, HasInitReason, CountsSource, CountsDisk, AsksFor, RefusesStore, RefusesInit, IsFreeOfDisk, IsValidInit, TellsFaults}
+use Rattle.ss_app.specs.Ending.{status_of, ending_of_open, ending_of_outcome}
+use Rattle.ss_open.specs.Opening.{HasNoStore, IsDamagedStore, Opens}
+use Rattle.ss_open.specs.declared.fault.OpenFault.{OpenFault}
+use Rattle.ss_open.specs.declared.fault.OpenFault.TheVariants as opening
+use Rattle.ss_import.specs.Import.{CountsSource as SourceOfImport}
+use Rattle.ss_import.specs.declared.importer.Imported.{Imported}
+use Rattle.ss_import.specs.declared.fault.ImportFault.{ImportFault}
+use Rattle.ss_import.specs.declared.fault.ImportFault.TheVariants as import
+use Rattle.ss_app.specs.Importing.{IsNotOpened, IsImported, IsInformed}
+use Rattle.ss_app.proofs.ImportFaults.{faults_of, import_faults}
+use Rattle.ss_app.specs.Outcome.{Traced, Inited, Writes, Ran, HasReason, HasInitReason, CountsSource, CountsDisk, AsksFor, RefusesStore, RefusesInit, IsFreeOfDisk, IsValidInit, TellsFaults}
+use Rattle.ss_app.specs.World.{Says}
 use Rattle.ss_app.specs.World.{Output, World}
-use Rattle.ss_app.specs.History.{AreCounted, faults_in}
+use Rattle.ss_history.specs.History.{AreCounted, faults_in}
 use Rattle.ss_app.specs.declared.words.Command.{Command}
-use Rattle.ss_app.specs.declared.words.Command.TheVariants.{Init, Trace, Help, Version}
+use Rattle.ss_app.specs.declared.words.Command.TheVariants.{Init, Trace, Import, Info, Help, Version}
 use Rattle.ss_open.proofs.Openings.{stands_apart}
-use Rattle.ss_app.proofs.Fulfilled.{err_or_ok}
+use Rattle.ss_history.proofs.Fulfilled.{err_or_ok}
 
 -- what is said of an ending, or of a sink that failed
-own_or_five : (old new : Output) (bytes : List ℕ) (own status : ℕ) → Says old new bytes own status → ((status ≡ own) × (new.faults ≡ old.faults)) ⊎ ((status ≡ 5) × Rose old.faults new.faults)
+pub own_or_five : (old new : Output) (bytes : List ℕ) (own status : ℕ) → Says old new bytes own status → ((status ≡ own) × (new.faults ≡ old.faults)) ⊎ ((status ≡ 5) × Rose old.faults new.faults)
 own_or_five old new bytes own status (inl said) = inl (said.0, said.2)
 own_or_five old new bytes own status (inr said) = inr (said.0, said.2)
 
@@ -29,7 +38,7 @@ too_many : (n most : ℕ) → most < n → n ≤ most → ⊥
 too_many n most more few = omega (arith, more, few)
 
 -- a damaged store has settings
-committed_of : (file : List ℕ) (at : ℕ) → IsDamagedStore file at → (settings : Settings) × HasSettings file settings
+pub committed_of : (file : List ℕ) (at : ℕ) → IsDamagedStore file at → (settings : Settings) × HasSettings file settings
 committed_of file at (inl half) = (half.settings, half.committed)
 committed_of file at (inr many) = (many.0.0, many.0.2.committed)
 
@@ -45,6 +54,9 @@ module _ {D : Type 0} (disk : Ghosts D) (old new : World D) (h : List Entry) (to
   seven (ends.Damaged file at) is7 reason = absurd (cc)
   seven (ends.BadScript line kind) is7 reason = absurd (cc)
   seven ends.TooLong is7 reason = absurd (cc)
+  seven (ends.NotImported fault) is7 reason = absurd reason
+  seven (ends.Imported imported) is7 reason = absurd reason
+  seven (ends.Informed info) is7 reason = absurd reason
 
   eight : (e : Ending) → status_of e ≡ 8 → HasReason disk old new h e → (at : ℕ) × IsDamagedStore (disk.files old.disk 0) at
   eight ends.Done is8 reason = absurd (cc)
@@ -57,6 +69,9 @@ module _ {D : Type 0} (disk : Ghosts D) (old new : World D) (h : List Entry) (to
   eight (ends.Damaged file at) is8 reason = (at, reason.3 told)
   eight (ends.BadScript line kind) is8 reason = absurd (cc)
   eight ends.TooLong is8 reason = absurd (cc)
+  eight (ends.NotImported fault) is8 reason = absurd reason
+  eight (ends.Imported imported) is8 reason = absurd reason
+  eight (ends.Informed info) is8 reason = absurd reason
 
   from_none : (script : List ℕ) (lines : List Line) (e : Ending) → old.source.left ≡ Some script → AsksFor script lines → HasReason disk old new h e → HasNoStore (disk.files old.disk 0) → (status_of e ≡ 7) ⊎ IsFreeOfDisk (status_of e)
   from_none script lines ends.Done known asks reason none = let stands = (reason.1 told).2 in absurd (none stands.settings stands.half.committed)
@@ -69,6 +84,9 @@ module _ {D : Type 0} (disk : Ghosts D) (old new : World D) (h : List Entry) (to
   from_none script lines (ends.Damaged file at) known asks reason none = let found = committed_of _ at (reason.3 told) in absurd (none found.0 found.1)
   from_none script lines (ends.BadScript line kind) known asks reason none = absurd (err_or_ok _ _ _ (reason.1 script known).1 asks.1)
   from_none script lines ends.TooLong known asks reason none = absurd (too_many _ SCRIPT_BYTES (reason.1 script known) asks.0)
+  from_none script lines (ends.NotImported fault) known asks reason none = absurd reason
+  from_none script lines (ends.Imported imported) known asks reason none = absurd reason
+  from_none script lines (ends.Informed info) known asks reason none = absurd reason
 
   from_damaged : (script : List ℕ) (lines : List Line) (at : ℕ) (e : Ending) → old.source.left ≡ Some script → AsksFor script lines → HasReason disk old new h e → IsDamagedStore (disk.files old.disk 0) at → (status_of e ≡ 8) ⊎ IsFreeOfDisk (status_of e)
   from_damaged script lines at ends.Done known asks reason damaged = let stands = (reason.1 told).2 in absurd (stands_apart _ at _ _ damaged stands)
@@ -81,13 +99,16 @@ module _ {D : Type 0} (disk : Ghosts D) (old new : World D) (h : List Entry) (to
   from_damaged script lines at (ends.Damaged file place) known asks reason damaged = inl refl
   from_damaged script lines at (ends.BadScript line kind) known asks reason damaged = absurd (err_or_ok _ _ _ (reason.1 script known).1 asks.1)
   from_damaged script lines at ends.TooLong known asks reason damaged = absurd (too_many _ SCRIPT_BYTES (reason.1 script known) asks.0)
+  from_damaged script lines at (ends.NotImported fault) known asks reason damaged = absurd reason
+  from_damaged script lines at (ends.Imported imported) known asks reason damaged = absurd reason
+  from_damaged script lines at (ends.Informed info) known asks reason damaged = absurd reason
 
 -- a status that is five is neither of the others
-not_five : (status n : ℕ) → (n ≡ 7) ⊎ (n ≡ 8) → status ≡ 5 → status ≡ n → ⊥
+pub not_five : (status n : ℕ) → (n ≡ 7) ⊎ (n ≡ 8) → status ≡ 5 → status ≡ n → ⊥
 not_five status n (inl seven) five is = absurd (let no_five : 5 ≡ 7 = sym five ∙ is ∙ seven in cc)
 not_five status n (inr eight) five is = absurd (let no_five : 5 ≡ 8 = sym five ∙ is ∙ eight in cc)
 
-free_five : (status : ℕ) → status ≡ 5 → IsFreeOfDisk status
+pub free_five : (status : ℕ) → status ≡ 5 → IsFreeOfDisk status
 free_five status five = inl (inr (inr five))
 
 pub refuses_store : {D : Type 0} (disk : Ghosts D) (old new : World D) (status : ℕ) (script : List ℕ) (lines : List Line)
@@ -113,6 +134,9 @@ module _ {D : Type 0} (disk : Ghosts D) (old new : World D) (settings : Settings
   exists_of (ends.Damaged file at) is7 reason = absurd reason
   exists_of (ends.BadScript line kind) is7 reason = absurd reason
   exists_of ends.TooLong is7 reason = absurd reason
+  exists_of (ends.NotImported fault) is7 reason = absurd reason
+  exists_of (ends.Imported imported) is7 reason = absurd reason
+  exists_of (ends.Informed info) is7 reason = absurd reason
 
   from_store : (e : Ending) (committed : Settings) → HasSettings (disk.files old.disk 0) committed → HasInitReason disk old.disk new.disk settings e → (status_of e ≡ 7) ⊎ IsFreeOfDisk (status_of e)
   from_store ends.Done committed has reason = absurd ((reason told).0 committed has)
@@ -125,6 +149,9 @@ module _ {D : Type 0} (disk : Ghosts D) (old new : World D) (settings : Settings
   from_store (ends.Damaged file at) committed has reason = absurd reason
   from_store (ends.BadScript line kind) committed has reason = absurd reason
   from_store ends.TooLong committed has reason = absurd reason
+  from_store (ends.NotImported fault) committed has reason = absurd reason
+  from_store (ends.Imported imported) committed has reason = absurd reason
+  from_store (ends.Informed info) committed has reason = absurd reason
 
   made_or_not : (e : Ending) → HasNoStore (disk.files old.disk 0) → ¬ Rose (disk.faults old.disk) (disk.faults new.disk) → CountsDisk e [] (disk.faults old.disk) (disk.faults new.disk) → HasInitReason disk old.disk new.disk settings e → (status_of e ≡ 0) ⊎ (status_of e ≡ 3)
   made_or_not ends.Done none sound counts reason = inl refl
@@ -137,6 +164,9 @@ module _ {D : Type 0} (disk : Ghosts D) (old new : World D) (settings : Settings
   made_or_not (ends.Damaged file at) none sound counts reason = absurd reason
   made_or_not (ends.BadScript line kind) none sound counts reason = absurd reason
   made_or_not ends.TooLong none sound counts reason = absurd reason
+  made_or_not (ends.NotImported fault) none sound counts reason = absurd reason
+  made_or_not (ends.Imported imported) none sound counts reason = absurd reason
+  made_or_not (ends.Informed info) none sound counts reason = absurd reason
 
 pub refuses_init : {D : Type 0} (disk : Ghosts D) (old new : World D) (settings : Settings) (status : ℕ)
     → Inited disk old new settings status → IsTrue disk.told → RefusesInit (disk.files old.disk 0) status
@@ -167,6 +197,10 @@ blames_none disk old new own no5 no4 no6 source sound = record { never = no5; re
 no_entry : (before now : ℕ) (h : List Entry) → h ≡ [] → AreCounted before now h → now ≡ before
 no_entry before now h none counted = counted.none (ap faults_in none)
 
+-- a count that stands where one fault put it has risen
+one_rose : (before now met : ℕ) → met ≡ 1 → min (before + met) (2 ^ 64 - 1) ≤ now → Rose before now
+one_rose before now met one enough = subst (λ n. min (before + n) (2 ^ 64 - 1) ≤ now) one enough
+
 module _ {D : Type 0} (disk : Ghosts D) (old new : World D) where
   blames_trace : (h : List Entry) (e : Ending) → HasReason disk old new h e → CountsSource e old.source.faults new.source.faults → CountsDisk e h (disk.faults old.disk) (disk.faults new.disk) → Blames disk old new (status_of e)
   blames_trace h ends.Done reason source faults = record { never = λ is. cc; read = λ is. absurd (cc); source = inr source; store = λ is. absurd (cc); sound = inl refl }
@@ -179,6 +213,9 @@ module _ {D : Type 0} (disk : Ghosts D) (old new : World D) where
   blames_trace h (ends.Damaged file at) reason source faults = blames_none disk old new 8 (λ is. cc) (λ is. cc) (λ is. cc) source (no_entry _ _ h reason.0 faults)
   blames_trace h (ends.BadScript line kind) reason source faults = blames_none disk old new 9 (λ is. cc) (λ is. cc) (λ is. cc) source (no_entry _ _ h reason.0 faults)
   blames_trace h ends.TooLong reason source faults = blames_none disk old new 13 (λ is. cc) (λ is. cc) (λ is. cc) source (no_entry _ _ h reason.0 faults)
+  blames_trace h (ends.NotImported fault) reason source faults = absurd reason
+  blames_trace h (ends.Imported imported) reason source faults = absurd reason
+  blames_trace h (ends.Informed info) reason source faults = absurd reason
 
   blames_init : (settings : Settings) (e : Ending) → HasInitReason disk old.disk new.disk settings e → new.source ≡ old.source → CountsDisk e [] (disk.faults old.disk) (disk.faults new.disk) → Blames disk old new (status_of e)
   blames_init settings ends.Done reason source faults = record { never = λ is. cc; read = λ is. absurd (cc); source = inr (ap (λ i. i.faults) source); store = λ is. absurd (cc); sound = inl refl }
@@ -191,6 +228,39 @@ module _ {D : Type 0} (disk : Ghosts D) (old new : World D) where
   blames_init settings (ends.Damaged file at) reason source faults = absurd reason
   blames_init settings (ends.BadScript line kind) reason source faults = absurd reason
   blames_init settings ends.TooLong reason source faults = absurd reason
+  blames_init settings (ends.NotImported fault) reason source faults = absurd reason
+  blames_init settings (ends.Imported imported) reason source faults = absurd reason
+  blames_init settings (ends.Informed info) reason source faults = absurd reason
+
+  -- the store was not opened
+  blames_open : (fault : OpenFault) → new.source ≡ old.source → Opens {disk = disk} old.disk (Err (fault, new.disk)) → Blames disk old new (status_of (ending_of_open fault))
+  blames_open opening.NoStore source opens = blames_none disk old new 7 (λ is. cc) (λ is. cc) (λ is. cc) (ap (λ i. i.faults) source) opens.counts
+  blames_open opening.StoreExists source opens = absurd (opens.errors opening.StoreExists new.disk refl)
+  blames_open (opening.Damaged file at) source opens = blames_none disk old new 8 (λ is. cc) (λ is. cc) (λ is. cc) (ap (λ i. i.faults) source) opens.counts
+  blames_open opening.DiskFault source opens = record { never = λ is. cc; read = λ is. absurd (cc); source = inr (ap (λ i. i.faults) source); store = λ is. opens.counts; sound = inr (inr (inl refl)) }
+  blames_open opening.NoMemory source opens = record { never = λ is. cc; read = λ is. absurd (cc); source = inr (ap (λ i. i.faults) source); store = λ is. absurd (cc); sound = inr (inl refl) }
+
+  -- an import met these faults of the disk, and told them
+  blames_import : (outcome : Result Imported ImportFault) (h : List Entry) → AreCounted (disk.faults old.disk) (disk.faults new.disk) h → faults_in h ≡ faults_of outcome → SourceOfImport old.source.faults new.source.faults outcome → Blames disk old new (status_of (ending_of_outcome outcome))
+  blames_import (Ok done) h counted met source = record { never = λ is. cc; read = λ is. absurd (cc); source = inr source; store = λ is. absurd (cc); sound = inl refl }
+  blames_import (Err import.NoMemory) h counted met source = record { never = λ is. cc; read = λ is. absurd (cc); source = inr source; store = λ is. absurd (cc); sound = inr (inl refl) }
+  blames_import (Err import.ReadFault) h counted met source = record { never = λ is. cc; read = λ is. source; source = inl refl; store = λ is. absurd (cc); sound = inr (inr (inr (counted.none met))) }
+  blames_import (Err import.DiskFault) h counted met source = record { never = λ is. cc; read = λ is. absurd (cc); source = inr source; store = λ is. one_rose _ _ (faults_in h) met counted.enough; sound = inr (inr (inl refl)) }
+  blames_import (Err (import.BadCar fault offset)) h counted met source = blames_none disk old new 10 (λ is. cc) (λ is. cc) (λ is. cc) source (counted.none met)
+  blames_import (Err (import.BadBlock fault offset)) h counted met source = blames_none disk old new 10 (λ is. cc) (λ is. cc) (λ is. cc) source (counted.none met)
+  blames_import (Err (import.LogFull file need room)) h counted met source = blames_none disk old new 11 (λ is. cc) (λ is. cc) (λ is. cc) source (counted.none met)
+  blames_import (Err (import.TableFull rows)) h counted met source = blames_none disk old new 12 (λ is. cc) (λ is. cc) (λ is. cc) source (counted.none met)
+  blames_import (Err import.TooLong) h counted met source = blames_none disk old new 13 (λ is. cc) (λ is. cc) (λ is. cc) source (counted.none met)
+  blames_import (Err (import.BadHead reply)) h counted met source = blames_none disk old new 16 (λ is. cc) (λ is. cc) (λ is. cc) source (counted.none met)
+
+  not_opened : (ending : Ending) → IsNotOpened disk old new ending → Blames disk old new (status_of ending)
+  not_opened ending n = subst (λ e. Blames disk old new (status_of e)) (sym n.ends) (blames_open n.fault n.source n.opens)
+
+  imported : (wants : Bool) (ending : Ending) → IsImported wants disk old new ending → Blames disk old new (status_of ending)
+  imported wants ending i = subst (λ e. Blames disk old new (status_of e)) (sym i.ends) (blames_import i.outcome _ i.imports.did.1 (import_faults i.imports) i.source)
+
+  informed : (ending : Ending) → IsInformed disk old new ending → Blames disk old new (status_of ending)
+  informed ending i = subst (λ e. Blames disk old new (status_of e)) (sym i.ends) (blames_none disk old new 0 (λ is. cc) (λ is. cc) (λ is. cc) (ap (λ s. s.faults) i.source) i.faults)
 
   -- the same of the status of the run, which is that of its ending, or 5
   tells : (bytes : List ℕ) (own status : ℕ) → Blames disk old new own → Says old.sink new.sink bytes own status → TellsFaults disk old new status
@@ -224,6 +294,8 @@ module _ {D : Type 0} (disk : Ghosts D) (old new : World D) where
   pub tells_faults : (asked : Result Command ℕ) (status : ℕ) → Ran asked disk old new status → TellsFaults disk old new status
   tells_faults (Ok (Init settings)) status i = tells _ _ status (blames_init settings i.ending i.reason i.source i.faults) i.said
   tells_faults (Ok Trace) status t = tells _ _ status (blames_trace t.history t.ending t.reason t.source t.faults) t.said
+  tells_faults (Ok (Import wants)) status r = tells _ _ status (⊎_elim (not_opened r.ending) (imported wants r.ending) r.reason) r.said
+  tells_faults (Ok Info) status r = tells _ _ status (⊎_elim (not_opened r.ending) (informed r.ending) r.reason) r.said
   tells_faults (Ok Help) status w = tells_written _ 0 status (inl refl) w
   tells_faults (Ok Version) status w = tells_written _ 0 status (inl refl) w
   tells_faults (Err word) status w = tells_written _ 2 status (inr refl) w

@@ -1,13 +1,19 @@
 -- The status of each ending of a run, and the line that tells why.
-use Rattle.std.specs.Prelude.{ℕ, List, [], ◌∷◌, ◌++◌, codes}
+use Rattle.std.specs.Prelude.{ℕ, List, [], ◌∷◌, ◌++◌, codes, Result, Ok, Err}
 use Rattle.ss_io.specs.declared.whole.ReadAllFault.{ReadAllFault}
 use Rattle.ss_io.specs.declared.whole.ReadAllFault.TheVariants as input
 use Rattle.ss_script.specs.declared.fault.ScriptFault.{ScriptFault}
 use Rattle.ss_script.specs.declared.fault.ScriptFault.TheVariants as script
 use Rattle.ss_script.specs.Fault.{kind_number}
-use Rattle.ss_script.specs.Text.{numbers_text}
+use Rattle.ss_car.specs.Fault.{number_of}
+use Rattle.ss_model.specs.declared.call.Info.{Info}
+use Rattle.ss_import.specs.Fault.{block_number}
+use Rattle.ss_import.specs.declared.importer.Imported.{Imported as Import}
+use Rattle.ss_import.specs.declared.fault.ImportFault.{ImportFault}
+use Rattle.ss_import.specs.declared.fault.ImportFault.TheVariants as import
+use Rattle.ss_script.specs.Text.{numbers_text, head_reply_text, height_text, info_text, settings_text}
 use Rattle.ss_app.specs.declared.ending.Ending.{Ending}
-use Rattle.ss_app.specs.declared.ending.Ending.TheVariants.{Done, Usage, NoMemory, ReadFault, DiskFault, NoStore, StoreExists, Damaged, BadScript, TooLong}
+use Rattle.ss_app.specs.declared.ending.Ending.TheVariants.{Done, Usage, NoMemory, ReadFault, DiskFault, NoStore, StoreExists, Damaged, BadScript, TooLong, NotImported, Imported, Informed}
 use Rattle.ss_open.specs.declared.fault.OpenFault.{OpenFault}
 use Rattle.ss_open.specs.declared.fault.OpenFault.TheVariants as opening
 
@@ -30,6 +36,22 @@ ending_of_open (opening.Damaged file at) = Damaged file at
 ending_of_open opening.DiskFault = DiskFault
 ending_of_open opening.NoMemory = NoMemory
 
+-- the ending of a run into whose store a CAR was imported
+abbrev pub ending_of_outcome : Result Import ImportFault → Ending
+ending_of_outcome (Ok imported) = Imported imported
+ending_of_outcome (Err fault) = NotImported fault
+
+abbrev pub import_status : ImportFault → ℕ
+import_status import.NoMemory = 3
+import_status import.ReadFault = 4
+import_status import.DiskFault = 6
+import_status (import.BadCar fault offset) = 10
+import_status (import.BadBlock fault offset) = 10
+import_status (import.LogFull file need room) = 11
+import_status (import.TableFull rows) = 12
+import_status import.TooLong = 13
+import_status (import.BadHead reply) = 16
+
 abbrev pub status_of : Ending → ℕ
 status_of Done = 0
 status_of (Usage word) = 2
@@ -41,8 +63,32 @@ status_of StoreExists = 7
 status_of (Damaged file at) = 8
 status_of (BadScript line kind) = 9
 status_of TooLong = 13
+status_of (NotImported fault) = import_status fault
+status_of (Imported imported) = 0
+status_of (Informed info) = 0
 
--- the last line that is written
+-- the line of an import that ended before its CAR did
+abbrev pub import_line : ImportFault → List ℕ
+import_line import.NoMemory = codes "error: no memory\n"
+import_line import.ReadFault = codes "error: read fault\n"
+import_line import.DiskFault = codes "error: disk fault\n"
+import_line (import.BadCar fault offset) = codes "error: car" ++ (numbers_text (number_of fault ∷ offset ∷ []) ++ codes "\n")
+import_line (import.BadBlock fault offset) = codes "error: car" ++ (numbers_text (block_number fault ∷ offset ∷ []) ++ codes "\n")
+import_line (import.LogFull file need room) = codes "error: log full" ++ (numbers_text (file ∷ need ∷ room ∷ []) ++ codes "\n")
+import_line (import.TableFull rows) = codes "error: table full" ++ (numbers_text (rows ∷ []) ++ codes "\n")
+import_line import.TooLong = codes "error: too long\n"
+import_line (import.BadHead reply) = codes "error: head " ++ (head_reply_text reply ++ codes "\n")
+
+-- how many sections and new blocks there were, and the height that was set
+abbrev pub imported_text : Import → List ℕ
+imported_text i =
+    codes "imported" ++ (numbers_text (i.sections ∷ []) ++ (codes " new" ++ (numbers_text (i.new ∷ []) ++ (codes " height" ++ (height_text i.height ++ codes "\n")))))
+
+-- the settings of a store, and what it counts
+abbrev pub informed_text : Info → List ℕ
+informed_text info = settings_text info.config ++ (codes "\n" ++ (info_text info ++ codes "\n"))
+
+-- the last lines that are written
 abbrev pub line_of : Ending → List ℕ
 line_of Done = []
 line_of (Usage word) = codes "error: usage" ++ (numbers_text (word ∷ []) ++ codes "\n")
@@ -54,3 +100,6 @@ line_of StoreExists = codes "error: store exists\n"
 line_of (Damaged file at) = codes "error: damaged" ++ (numbers_text (file ∷ at ∷ []) ++ codes "\n")
 line_of (BadScript line kind) = codes "error: script" ++ (numbers_text (line ∷ kind_number kind ∷ []) ++ codes "\n")
 line_of TooLong = codes "error: too long\n"
+line_of (NotImported fault) = import_line fault
+line_of (Imported imported) = imported_text imported
+line_of (Informed info) = informed_text info

@@ -1,5 +1,5 @@
 pub mod Ending
-pub mod History
+pub mod Importing
 pub mod Input
 pub mod Outcome
 pub mod Printing
@@ -10,6 +10,9 @@ pub mod World
 pub use Rattle.ss_model.specs.State
 pub use Rattle.ss_model.specs.Lawful
 pub use Rattle.ss_model.specs.History as Histories
+pub use Rattle.ss_history.specs.Story
+pub use Rattle.ss_import.specs.Import
+pub use Rattle.ss_import.specs.Valid
 pub use Rattle.ss_core.specs.StandsFor
 pub use Rattle.ss_core.specs.Effect
 pub use Rattle.ss_core.specs.Calls as CoreCalls

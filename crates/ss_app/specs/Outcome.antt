@@ -4,20 +4,18 @@
 -- the front. What is written is what was printed of the history and then the line of the ending, and the status is the ending's.
 -- Where the sink failed the status is 5, and a prefix of these bytes is written; all else stands. The other commands have an ending
 -- alone.
-use Rattle.std.specs.Prelude.{◌≡◌, ◌⊎◌, ℕ, Bool, true, false, ◌<◌, ◌≤◌, List, [], ◌++◌, length, codes, Option, None, Some, Result, Ok, Err, IsErr, IsTrue}
+use Rattle.std.specs.Prelude.{◌≡◌, ◌⊎◌, ℕ, Bool, true, false, ◌<◌, ◌≤◌, List, [], ◌++◌, length, codes, Option, Some, Result, Ok, Err, IsErr, IsTrue}
 use Rattle.std.specs.Option.{ForSome}
 use Rattle.std.specs.Io.KnownBytes.{Appends, IsAtEnd}
-use Rattle.ss_io.specs.Written.{AppendsFront}
 use Rattle.ss_disk.specs.declared.disk.Disk.{Ghosts}
-use Rattle.ss_disk.specs.Disk.{Files, Same, Evolves, Rose}
-use Rattle.ss_disk.specs.Calls.{Goes, Touches}
+use Rattle.ss_disk.specs.Disk.{Same, Evolves, Rose}
+use Rattle.ss_disk.specs.Calls.{Goes}
 use Rattle.ss_records.specs.declared.record.Config.{Config as Settings}
-use Rattle.ss_records.specs.declared.record.Record.{Record}
 use Rattle.ss_hot.specs.File.{HasSettings}
 use Rattle.ss_model.specs.State.{State}
-use Rattle.ss_model.specs.History.{Legal, AfterAll}
+use Rattle.ss_model.specs.History.{Legal}
 use Rattle.ss_model.specs.declared.call.Entry.{Entry}
-use Rattle.ss_core.specs.StandsFor.{HasState, HasEitherState}
+use Rattle.ss_core.specs.StandsFor.{HasState}
 use Rattle.ss_open.specs.Opening.{HasNoStore, IsDamagedStore, AreEmptyBeside, IsNewStore}
 use Rattle.ss_script.specs.declared.TheConstants.{CLIENTS}
 use Rattle.ss_script.specs.declared.line.Line.{Line}
@@ -28,20 +26,16 @@ use Rattle.ss_script.specs.Views.{no_views}
 use Rattle.ss_app.specs.declared.TheConstants.{SCRIPT_BYTES}
 use Rattle.ss_app.specs.declared.help.TheConstants.{HELP, VERSION}
 use Rattle.ss_app.specs.declared.words.Command.{Command}
-use Rattle.ss_app.specs.declared.words.Command.TheVariants.{Init, Trace, Help, Version}
+use Rattle.ss_app.specs.declared.words.Command.TheVariants.{Init, Trace, Import, Info, Help, Version}
 use Rattle.ss_app.specs.declared.ending.Ending.{Ending}
 use Rattle.ss_app.specs.declared.ending.Ending.TheVariants.{Done, Usage, NoMemory, ReadFault, DiskFault, NoStore, StoreExists, Damaged, BadScript, TooLong}
 use Rattle.ss_app.specs.Ending.{status_of, line_of}
-use Rattle.ss_app.specs.History.{AreCounted, HasRooms, AreRooms, AreDoubts, AreStill, HavePlace, IsFulfilled}
+use Rattle.ss_history.specs.History.{AreCounted, HavePlace, IsFulfilled}
+use Rattle.ss_history.specs.Story.{HasStore, IsHistory}
 use Rattle.ss_app.specs.Input.{IsTooLong}
 use Rattle.ss_app.specs.Run.{InOrder}
-use Rattle.ss_app.specs.World.{Input, Output, World}
-
--- The status and the bytes that are written: these, where the sink's count of faults stayed; or of a sink that failed 5 and a prefix
--- of them.
-abbrev pub Says : Output → Output → List ℕ → ℕ → ℕ → Type 0
-Says old new bytes own status =
-    ((status ≡ own) × Appends old.written new.written bytes × (new.faults ≡ old.faults)) ⊎ ((status ≡ 5) × AppendsFront old.written new.written bytes × Rose old.faults new.faults)
+use Rattle.ss_app.specs.Importing.{ImportRan, InfoRan}
+use Rattle.ss_app.specs.World.{Input, Output, World, Says}
 
 -- the script is no longer than it may be, and asks for these lines
 abbrev pub AsksFor : List ℕ → List Line → Type 0
@@ -50,30 +44,6 @@ AsksFor script lines = (length script ≤ SCRIPT_BYTES) × (script_of CLIENTS sc
 -- the script asks for some lines
 abbrev pub Asks : Option (List ℕ) → Type 0
 Asks left = (lines : List Line) × ForSome left (λ script. AsksFor script lines)
-
--- a file has the state of a store
-abbrev pub HasStore : List ℕ → Type 0
-HasStore file = (s : State) × (end : ℕ) × HasState file end s
-
--- From a state that the file had, the history is legal; each full log had just the room that was left, and other puts had enough. Each
--- image now has the state after the history with its views closed, or, where a record is in doubt, the one that it would make.
-pub record IsLegalFrom {D : Type 0} (disk : Ghosts D) (was is : D) (h : List Entry) : Type 0 where
-  pub state : State
-  pub end : ℕ
-  pub stands : HasState (disk.files was 0) end state
-  pub legal : Legal state h
-  pub rooms : AreRooms state end h
-  pub doubt : Option Record
-  pub doubts : AreDoubts state None h doubt
-  pub left : (left : Files) → disk.image is (disk.moment is) left → HasEitherState (AfterAll state h) doubt (left 0)
-
--- The entries over a disk: legal, where there are any and the disk exposes its files; for each full log its room and what is known of
--- its file make a limit; no file changed but that of the hot log, and none where no entry may have called the disk.
-pub record IsHistory {D : Type 0} (disk : Ghosts D) (was is : D) (h : List Entry) : Type 0 where
-  pub legal : IsTrue disk.told → (h ≡ []) ⊎ IsLegalFrom disk was is h
-  pub rooms : HasRooms (disk.known is) h
-  pub touches : Touches disk 0 was is
-  pub still : AreStill h → Goes disk Same was is
 
 -- Why a run of `trace` that made these calls ends so.
 abbrev pub HasReason : {D : Type 0} → Ghosts D → World D → World D → List Entry → Ending → Type 0
@@ -85,8 +55,7 @@ HasReason disk old new h TooLong = (h ≡ []) × IsTooLong old.source.left
 HasReason disk old new h DiskFault = (h ≡ []) × Asks old.source.left
 HasReason disk old new h NoStore = (h ≡ []) × Asks old.source.left × (IsTrue disk.told → HasNoStore (disk.files old.disk 0))
 HasReason disk old new h (Damaged file at) = (h ≡ []) × Asks old.source.left × (file ≡ 0) × (IsTrue disk.told → IsDamagedStore (disk.files old.disk 0) at)
-HasReason disk old new h StoreExists = ⊥
-HasReason disk old new h (Usage word) = ⊥
+HasReason disk old new h _ = ⊥
 
 -- The source's count of faults rose where the run ended by it, and only there.
 abbrev pub CountsSource : Ending → ℕ → ℕ → Type 0
@@ -182,6 +151,8 @@ pub record Writes {D : Type 0} (old new : World D) (bytes : List ℕ) (own statu
 abbrev pub Ran : Result Command ℕ → {D : Type 0} → Ghosts D → World D → World D → ℕ → Type 0
 Ran (Ok (Init settings)) disk old new status = Inited disk old new settings status
 Ran (Ok Trace) disk old new status = Traced disk old new status
+Ran (Ok (Import wants)) disk old new status = ImportRan wants disk old new status
+Ran (Ok Info) disk old new status = InfoRan disk old new status
 Ran (Ok Help) disk old new status = Writes old new HELP.now 0 status
 Ran (Ok Version) disk old new status = Writes old new VERSION.now 0 status
 Ran (Err word) disk old new status = Writes old new (line_of (Usage word)) 2 status

@@ -1,54 +1,22 @@
 -- How far a run of `trace` has come: the entries so far, what they left of the store, and what was printed of them.
-use Rattle.std.specs.Prelude.{◌≡◌, ℕ, Bool, true, false, List, [], ◌∷◌, ◌++◌, length, Option, None, Result, Ok, Err, IsTrue}
+use Rattle.std.specs.Prelude.{◌≡◌, ℕ, Bool, true, false, List, [], ◌∷◌, ◌++◌, length, Result, Ok, Err}
 use Rattle.std.specs.Io.KnownBytes.{Appends}
 use Rattle.ss_cid.specs.declared.memory.NoMemory as no_memory
 use Rattle.ss_disk.specs.declared.disk.Disk.{Ghosts}
-use Rattle.ss_disk.specs.Disk.{Same, Rose}
-use Rattle.ss_disk.specs.Calls.{Goes, Touches}
-use Rattle.ss_records.specs.declared.record.Record.{Record}
-use Rattle.ss_model.specs.State.{State}
-use Rattle.ss_model.specs.Lawful.{After}
-use Rattle.ss_model.specs.History.{Legal, AfterAll}
+use Rattle.ss_disk.specs.Disk.{Rose}
 use Rattle.ss_model.specs.declared.call.Entry.{Entry}
 use Rattle.ss_core.specs.declared.split_core.SplitCore.{SplitCore}
-use Rattle.ss_core.specs.StandsFor.{HasState, StandsFor}
 use Rattle.ss_script.specs.declared.line.Line.{Line}
 use Rattle.ss_script.specs.Text.{text}
 use Rattle.ss_script.specs.Views.{no_views, after_line}
-use Rattle.ss_app.specs.History.{AreCounted, HasRoomsBy, IsLimit, AreRooms, AreDoubts, AreStill, end_after}
+use Rattle.ss_history.specs.Story.{Story}
 use Rattle.ss_app.specs.Run.{InOrder}
 use Rattle.ss_app.specs.World.{Output}
-
--- the log's end after all entries
-abbrev pub end_behind : State → ℕ → List Entry → ℕ
-end_behind s end [] = end
-end_behind s end (e ∷ h) = end_behind (After s e.call e.answer) (end_after s end e) h
 
 -- the clients' views after all entries, which are those of the lines
 abbrev pub views_behind : List (List ℕ) → List Line → List Entry → List (List ℕ)
 views_behind views (line ∷ lines) (e ∷ h) = views_behind (after_line views line e.answer) lines h
 views_behind views _ _ = views
-
--- from a state that the file had, the entries are legal, and the store stands for the state after them
-pub record IsToldStory {D : Type 0} {disk : Ghosts D} (was : D) (core : SplitCore D disk) (h : List Entry) : Type 0 where
-  pub state : State
-  pub end : ℕ
-  pub stands : HasState (disk.files was 0) end state
-  pub legal : Legal state h
-  pub rooms : AreRooms state end h
-  pub doubt : Option Record
-  pub doubts : AreDoubts state None h doubt
-  pub serves : StandsFor core (AfterAll state h) doubt
-  pub end_is : core.hot.log.end ≡ end_behind state end h
-
--- what the entries did to the store and its disk
-pub record Story {D : Type 0} {disk : Ghosts D} (was : D) (core : SplitCore D disk) (h : List Entry) : Type 0 where
-  pub told : IsTrue disk.told → IsToldStory was core h
-  pub counted : AreCounted (disk.faults was) (disk.faults core.disk) h
-  pub limit : IsLimit core.hot.settings.limit
-  pub rooms : HasRoomsBy core.hot.settings.limit (disk.known core.disk) h
-  pub touches : Touches disk 0 was core.disk
-  pub still : AreStill h → Goes disk Same was core.disk
 
 -- the entries of these lines, with what is not printed of them
 pub record Trail (h : List Entry) (unprinted : List ℕ) (refused : Bool) (made : List Line) (old new : Output) : Type 0 where

@@ -2,11 +2,13 @@
 --
 --     init mode=discard [depth=N] [threshold=N] [batch=N] [rows=N] [limit=N]
 --     trace
+--     import [head=yes|head=no]
+--     info
 --     --help
 --     --version
 --
 -- A number is decimal, without a sign and without leading zeros, and within the range of its key. Words are counted from 0.
-use Rattle.std.specs.Prelude.{ℕ, ◌+◌, ◌-◌, ◌^◌, ◌==◌, ◌&&◌, nat_le, List, [], ◌∷◌, ◌++◌, if◌then◌else◌, length, take, drop, position, codes, Option, Some, None, Result, Ok, Err, option_map, unwrap_or}
+use Rattle.std.specs.Prelude.{ℕ, ◌+◌, ◌-◌, ◌^◌, ◌==◌, ◌&&◌, nat_le, true, false, List, [], ◌∷◌, ◌++◌, if◌then◌else◌, length, take, drop, position, codes, Option, Some, None, Result, Ok, Err, option_map, unwrap_or}
 use Rattle.std.specs.Option.{option_and_then, option_map_or}
 use Rattle.std.specs.Fmt.{decimal}
 use Rattle.std.specs.Str.{bytes_eq}
@@ -16,7 +18,7 @@ use Rattle.ss_records.specs.declared.record.Mode.{Mode}
 use Rattle.ss_records.specs.declared.record.Mode.TheVariants.{Discard}
 use Rattle.ss_records.specs.Record.{SettingsFit}
 use Rattle.ss_app.specs.declared.words.Command.{Command}
-use Rattle.ss_app.specs.declared.words.Command.TheVariants.{Init, Trace, Help, Version}
+use Rattle.ss_app.specs.declared.words.Command.TheVariants.{Init, Trace, Import, Info, Help, Version}
 use Rattle.ss_app.specs.declared.words.Key.{Key}
 use Rattle.ss_app.specs.declared.words.Key.TheVariants as key
 use Rattle.ss_app.specs.declared.words.Settings.{Settings}
@@ -100,6 +102,14 @@ abbrev pub alone : Command → ℕ → List (List ℕ) → Result Command ℕ
 alone command place [] = Ok command
 alone command place (word ∷ words) = Err place
 
+-- the command `import` with these words behind it, which sets the roots as head unless a word says that it does not
+abbrev pub import_of : List (List ℕ) → Result Command ℕ
+import_of [] = Ok (Import true)
+import_of (word ∷ words) =
+    if bytes_eq word (codes "head=yes") then alone (Import true) 2 words
+    else if bytes_eq word (codes "head=no") then alone (Import false) 2 words
+    else Err 1
+
 -- The command of these words, or the place of the first that is invalid: the number of words where one is missing.
 -- A word behind `trace` is at fault, but `--help` and `--version` are themselves no commands unless they stand alone.
 abbrev pub command_of : List (List ℕ) → Result Command ℕ
@@ -107,6 +117,8 @@ command_of [] = Err 0
 command_of (command ∷ words) =
     if bytes_eq command (codes "init") then init_of words
     else if bytes_eq command (codes "trace") then alone Trace 1 words
+    else if bytes_eq command (codes "import") then import_of words
+    else if bytes_eq command (codes "info") then alone Info 1 words
     else if bytes_eq command (codes "--help") then alone Help 0 words
     else if bytes_eq command (codes "--version") then alone Version 0 words
     else Err 0
@@ -121,5 +133,7 @@ words_of c =
 abbrev pub CommandFits : Command → Type 0
 CommandFits (Init config) = SettingsFit config
 CommandFits Trace = Unit {0}
+CommandFits (Import head) = Unit {0}
+CommandFits Info = Unit {0}
 CommandFits Help = Unit {0}
 CommandFits Version = Unit {0}

@@ -29,6 +29,14 @@ splitstore trace
     reads a script, makes its calls on the store of the current folder and
     prints each with its answer
 
+splitstore import [head=yes|head=no]
+    puts the blocks of the CAR on standard input in the store of the current
+    folder, and sets its roots as head, unless head=no; prints how many
+    sections there were, how many blocks were new, and the height
+
+splitstore info
+    prints the settings of the store, and what it counts
+
 splitstore --help
     prints this page
 

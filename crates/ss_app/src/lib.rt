@@ -20,6 +20,7 @@
 
 mod ending;
 mod help;
+mod importing;
 mod run;
 mod words;
 

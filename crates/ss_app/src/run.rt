@@ -1,6 +1,7 @@
 //! A run of the program, over any source, sink and disk.
 
-ghost use Rattle.std.specs.Prelude.{◌≡◌, ◌⊎◌, ◌∷◌, ◌++◌, ◌+◌, ◌^◌, ◌<◌, [], ℕ, List, false, map, Ok, IsErr, IsTrue, Option, Some, string_bytes};
+ghost use Rattle.std.specs.Prelude.{◌≡◌, ◌⊎◌, ◌∷◌, ◌++◌, ◌+◌, ◌^◌, ◌<◌, [], ℕ, Bool, List, false, map, Ok, IsErr, IsTrue, Option, Some, string_bytes};
+ghost use Rattle.ss_car.specs.Car.{Section};
 ghost use Rattle.ss_records.specs.declared.record.Config.{Config as Settings};
 ghost use Rattle.ss_records.specs.Record.{SettingsFit};
 ghost use Rattle.ss_io.specs.Causes.{HasCause};
@@ -15,15 +16,18 @@ ghost use Rattle.ss_core.specs.Calls.{Steps, Makes};
 ghost use Rattle.ss_core.specs.StandsFor.{StandsFor};
 ghost use Rattle.ss_app.specs.declared.words.Command.TheVariants as command;
 ghost use Rattle.ss_app.specs.Ending.{status_of, line_of};
-ghost use Rattle.ss_app.specs.Outcome.{Says, Reads, CallsMade, Traced, Inited, Ran, TellsFaults, RefusesScript, RefusesStore, RefusesInit, IsValidTrace, IsValidInit, AsksFor};
+ghost use Rattle.ss_app.specs.Outcome.{Reads, CallsMade, Traced, Inited, Ran, TellsFaults, RefusesScript, RefusesStore, RefusesInit, IsValidTrace, IsValidInit, AsksFor};
+ghost use Rattle.ss_app.specs.Importing.{IsValidImport, IsValidInfo};
 ghost use Rattle.ss_app.specs.Printing.{PrintsUnless};
-ghost use Rattle.ss_app.specs.Progress.{Progress, Stepped, Story};
+ghost use Rattle.ss_app.specs.Progress.{Progress, Stepped};
+ghost use Rattle.ss_history.specs.Story.{Story};
 ghost use Rattle.ss_app.specs.Words.{command_of};
-ghost use Rattle.ss_app.specs.World.{input, output, world};
+ghost use Rattle.ss_app.specs.World.{input, output, world, Says};
 
 use crate::SCRIPT_BYTES;
 use crate::ending::Ending;
 use crate::help::{HELP, VERSION};
+use crate::importing::{run_import, run_info};
 use crate::words::{Command, command_of};
 use ss_cid::NoMemory;
 use ss_core::SplitCore;
@@ -50,12 +54,14 @@ pub struct Exit<D> {
 /// Does what the words of the command line ask for, and answers the status that the program ends with.
 ///
 /// `init` makes a store on the disk. `trace` reads a script from the source, makes its calls on the store of the disk, and writes a
-/// line for each. `--help` and `--version` write what they name. An invalid word is found before anything else, a
-/// source that fails or holds more than `SCRIPT_BYTES` before a bad line, a bad line before the disk is touched, and what is wrong
-/// with the store before any call is made. A call that fails, out of memory, of room or for a fault of the disk, is an entry like
-/// any other.
+/// line for each. `import` reads a CAR from the source, puts its sections in the store, and may set its roots as head. `info`
+/// writes the settings of the store and what it counts. `--help` and `--version` write what they name. An invalid word is found
+/// before anything else. Of `trace` a source that fails or holds more than `SCRIPT_BYTES` comes before a bad line, a bad line
+/// before the disk is touched, and what is wrong with the store before any call is made. A call that fails, out of memory, of
+/// room or for a fault of the disk, is an entry like any other. `import` ends at the first fault that it meets; the sections
+/// before that are kept, but for those that were read and not put yet where the source failed or memory ran out.
 ///
-/// `trace` changes no file but that of the hot log, and none before its first call. `init` changes none where there is a store;
+/// `trace` and `import` change no file but that of the hot log, and `trace` none before its first call; `info` changes none. `init` changes none where there is a store;
 /// where there is none, files may be emptied on status 6, and the store may be made on 5 and 6. Statuses:
 ///
 /// | status | why |
@@ -65,11 +71,15 @@ pub struct Exit<D> {
 /// | 3 | there was not enough memory |
 /// | 4 | the source failed |
 /// | 5 | the sink failed; all else was done that the run would have done |
-/// | 6 | the disk failed while the store was opened or made |
+/// | 6 | the disk failed while the store was opened or made, or in an import |
 /// | 7 | the disk has no store, or for `init` it has one |
 /// | 8 | a file of the store is damaged |
 /// | 9 | a line of the script is invalid |
-/// | 13 | the script is too long |
+/// | 10 | the CAR is malformed, or a block of it is not stored |
+/// | 11 | in an import the log had no room for a record |
+/// | 12 | in an import more CIDs would have been kept than the settings allow |
+/// | 13 | the script is too long, or a section of the CAR ends behind byte 2^40 |
+/// | 16 | the roots of the CAR are not set as head |
 pub fn run_alone<S: Source, K: Sink, D: Disk>(
     alloc: Global,
     words: &[String],
@@ -86,9 +96,13 @@ pub fn run_alone<S: Source, K: Sink, D: Disk>(
     ensures usage { (result.status ≡ 2 → IsErr (command_of (map string_bytes words.now))) × (IsErr (command_of (map string_bytes words.now)) → (result.status ≡ 2) ⊎ (result.status ≡ 5)) }
     ensures script { (script : List ℕ) → command_of (map string_bytes words.now) ≡ Ok command.Trace → S.left source.old ≡ Some script → RefusesScript script result.status }
     ensures store { (script : List ℕ) (lines : List Line) → command_of (map string_bytes words.now) ≡ Ok command.Trace → S.left source.old ≡ Some script → AsksFor script lines → IsTrue D.told → RefusesStore (D.files disk 0) result.status }
+    ensures import_store { (head : Bool) → command_of (map string_bytes words.now) ≡ Ok (command.Import head) → IsTrue D.told → RefusesStore (D.files disk 0) result.status }
+    ensures info_store { command_of (map string_bytes words.now) ≡ Ok command.Info → IsTrue D.told → RefusesStore (D.files disk 0) result.status }
     ensures init { (settings : Settings) → command_of (map string_bytes words.now) ≡ Ok (command.Init settings) → IsTrue D.told → RefusesInit (D.files disk 0) result.status }
     ensures complete { (script : List ℕ) (lines : List Line) → command_of (map string_bytes words.now) ≡ Ok command.Trace → IsValidTrace D.Disk (world S.Source K.Sink source.old sink.old disk) (world S.Source K.Sink source.new sink.new result.disk) script lines → (result.status ≡ 0) ⊎ (result.status ≡ 3) }
     ensures complete_init { (settings : Settings) → command_of (map string_bytes words.now) ≡ Ok (command.Init settings) → IsValidInit D.Disk (world S.Source K.Sink source.old sink.old disk) (world S.Source K.Sink source.new sink.new result.disk) → (result.status ≡ 0) ⊎ (result.status ≡ 3) }
+    ensures complete_import { (head : Bool) (bytes : List ℕ) (roots : List (List ℕ)) (sections : List Section) → command_of (map string_bytes words.now) ≡ Ok (command.Import head) → IsValidImport head D.Disk (world S.Source K.Sink source.old sink.old disk) (world S.Source K.Sink source.new sink.new result.disk) bytes roots sections → (result.status ≡ 0) ⊎ (result.status ≡ 3) }
+    ensures complete_info { command_of (map string_bytes words.now) ≡ Ok command.Info → IsValidInfo D.Disk (world S.Source K.Sink source.old sink.old disk) (world S.Source K.Sink source.new sink.new result.disk) → (result.status ≡ 0) ⊎ (result.status ≡ 3) }
 {
     run_command(alloc, command_of(words), source, sink, disk)
 }
@@ -107,6 +121,8 @@ fn run_command<S: Source, K: Sink, D: Disk>(
     match asked {
         Ok(Command::Init(config)) => make(alloc, config, source, sink, disk),
         Ok(Command::Trace) => trace(alloc, source, sink, disk),
+        Ok(Command::Import(head)) => run_import(alloc, head, source, sink, disk),
+        Ok(Command::Info) => run_info(alloc, source, sink, disk),
         Ok(Command::Help) => Exit {
             status: say(sink, HELP),
             disk,
@@ -133,7 +149,7 @@ fn say<K: Sink>(sink: &mut K, text: &str) -> u8
 }
 
 // Writes the line of an ending, flushes the sink, and gives the status of the run.
-fn finish<K: Sink>(sink: &mut K, ending: Ending) -> u8
+pub(crate) fn finish<K: Sink>(sink: &mut K, ending: Ending) -> u8
     ensures { Says (output K.Sink sink.old) (output K.Sink sink.new) (line_of ending) (status_of ending) result }
 {
     match put_ending(sink, ending) {

@@ -5,7 +5,7 @@ ghost use Rattle.ss_records.specs.declared.record.Config.{Config as Settled};
 ghost use Rattle.ss_records.specs.declared.record.Mode.TheVariants.{Discard};
 ghost use Rattle.ss_records.specs.Record.{SettingsFit};
 ghost use Rattle.ss_app.specs.declared.words.Command.TheVariants.{Init};
-ghost use Rattle.ss_app.specs.Words.{CommandFits, command_of, words_of, alone, init_of, settings_from, no_settings, mode_of, number_within, once};
+ghost use Rattle.ss_app.specs.Words.{CommandFits, command_of, words_of, alone, import_of, init_of, settings_from, no_settings, mode_of, number_within, once};
 
 use ss_records::{Config, Mode};
 use ss_script::is_number;
@@ -26,6 +26,10 @@ pub(crate) enum Command {
     Init(Config),
     /// To make the calls of a script.
     Trace,
+    /// To import a CAR, and set its roots as head if the flag says so.
+    Import(bool),
+    /// To tell the settings, and what the store counts.
+    Info,
     /// To print the commands.
     Help,
     /// To print the version.
@@ -44,6 +48,8 @@ pub(crate) fn command_of(words: &[String]) -> Result<Command, usize>
     match command.as_str() {
         "init" => init(rest),
         "trace" => alone(Command::Trace, 1, rest),
+        "import" => import(rest),
+        "info" => alone(Command::Info, 1, rest),
         "--help" => alone(Command::Help, 0, rest),
         "--version" => alone(Command::Version, 0, rest),
         _ => Err(0),
@@ -63,6 +69,20 @@ fn alone(command: Command, place: usize, words: &[String]) -> Result<Command, us
         Ok(command)
     } else {
         Err(place)
+    }
+}
+
+// The command `import` with these words behind it.
+fn import(words: &[String]) -> Result<Command, usize>
+    ensures { result ≡ import_of (map string_bytes words.now) }
+{
+    let Some((word, rest)) = words.split_first() else {
+        return Ok(Command::Import(true));
+    };
+    match word.as_str() {
+        "head=yes" => alone(Command::Import(true), 2, rest),
+        "head=no" => alone(Command::Import(false), 2, rest),
+        _ => Err(1),
     }
 }
 

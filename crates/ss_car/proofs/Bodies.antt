@@ -4,10 +4,9 @@ use Rattle.std.specs.Prelude.{Option}
 use Rattle.std.proofs.lemmas.List.{append-nil}
 use Rattle.ss_cid.specs.Varint.{varint}
 use Rattle.std.specs.Io.KnownBytes.{Consumes}
-use Rattle.ss_car.specs.Bodies.{HeaderFault, BodyFault}
+use Rattle.ss_car.specs.Bodies.{HeaderFault, BodyFault, Blames}
 use Rattle.ss_car.specs.Car.{framed, IsHeader, UnframedFault, StartFault, SectionFault}
 use Rattle.ss_car.specs.Car as car
-use Rattle.ss_car.specs.Told.{Blames}
 use Rattle.ss_car.specs.declared.fault.CarFault.{CarFault}
 use Rattle.ss_car.specs.declared.fault.CarFault.TheVariants.{NoMemory, BadHeader, BadVersion, ZeroSection, BadCid}
 use Rattle.ss_car.proofs.Lengths.{Consumes-is, Blames-by}

@@ -12,7 +12,9 @@ use Rattle.ss_cbor.specs.declared.fault.CborFault.{CborFault}
 use Rattle.ss_cbor.proofs.Numbers.{IsBytes}
 use Rattle.ss_cbor.proofs.Parts.{part_takes, part_again, IsPart-some}
 use Rattle.ss_car.specs.Car.{roots_pair, version_pair, IsHeader}
-use Rattle.ss_car.specs.HeaderReading.{◌>>=◌, as_pairs, as_key, as_count, as_number, as_link, two_pairs_from, key_from, link_from, links_from, roots_from, version_from, whole, roots_first, version_first, or_else, header_in}
+use Rattle.ss_car.specs.HeaderReading.{as_pairs, as_key, two_pairs_from, key_from, link_from, links_from, roots_from, version_from, whole, roots_first, version_first, header_in}
+use Rattle.ss_cbor.specs.Options.{◌>>=◌, or_else}
+use Rattle.ss_cbor.specs.Reading.{as_count, as_number, as_link}
 
 -- ---- steps
 

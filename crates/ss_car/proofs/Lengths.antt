@@ -15,8 +15,7 @@ use Rattle.ss_cid.proofs.Chains.{guard-Ok, Ok-both}
 use Rattle.ss_cid.proofs.Varints.{AllHigh, varint_at-short, varint_at-long, varint_at-ends}
 use Rattle.ss_cid.proofs.Spelling.{varint_at-spelled}
 use Rattle.ss_car.specs.Car.{LengthFault, cut, long, UnframedFault, no_length, too_large, body_cut}
-use Rattle.ss_car.specs.Lengths.{EndsOnce}
-use Rattle.ss_car.specs.Told.{Blames, TakesByte}
+use Rattle.ss_car.specs.Bodies.{EndsOnce, Blames, TakesByte}
 use Rattle.ss_car.specs.declared.fault.CarFault.TheVariants.{ReadFault, NoMemory, Truncated, BadHeader, BadVersion, ZeroSection, TooLarge, BadCid, BadLength}
 use Rattle.ss_car.specs.declared.fault.CarFault.{CarFault}
 

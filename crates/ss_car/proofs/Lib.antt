@@ -2,6 +2,6 @@ mod Links
 mod Lengths
 mod Headers
 mod Bodies
-mod Readings
-mod Sections
+pub mod Readings
+pub mod Sections
 mod Written

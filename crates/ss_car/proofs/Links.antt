@@ -3,8 +3,9 @@ use native.Mathlib.Numerals.{unary_clauses}
 use Rattle.std.proofs.Common.{◌≡◌, ℕ, zero, suc, ◌+◌, ◌-◌, ◌<◌, ◌≤◌, List, [], ◌∷◌, ◌++◌, Option, Some, None, refl, sym, ap, ◌∙◌, append_assoc, arith}
 use Rattle.std.proofs.lemmas.List.{append-nil}
 use Rattle.ss_cbor.specs.Position.{Position}
-use Rattle.ss_car.specs.HeaderReading.{◌>>=◌, link_from, links_from}
-use Rattle.ss_car.specs.Reads.{Reads}
+use Rattle.ss_car.specs.HeaderReading.{link_from, links_from}
+use Rattle.ss_cbor.specs.Options.{◌>>=◌}
+use Rattle.ss_cbor.specs.Position.{Reads}
 
 -- these links, and then those that were found
 abbrev pub after_links : List (List ℕ) → Option (List (List ℕ) × List ℕ) → Option (List (List ℕ) × List ℕ)

@@ -1,5 +1,5 @@
 -- Bytes begin with one section at most, or are refused by one fault; so their sections are one list.
-use Rattle.std.proofs.Common.{◌≡◌, ◌⊎◌, inl, inr, ℕ, zero, suc, ◌+◌, ◌<◌, ◌≤◌, List, [], ◌∷◌, ◌++◌, length, drop, All, Option, Some, None, Result, Ok, Err, refl, sym, ap, subst, ◌∙◌, arith, length-append}
+use Rattle.std.proofs.Common.{◌≡◌, ◌⊎◌, inl, inr, ℕ, zero, suc, ◌+◌, ◌<◌, ◌≤◌, List, [], ◌∷◌, ◌++◌, length, drop, All, Option, Some, None, Result, Ok, Err, refl, sym, ap, subst, ◌∙◌, arith, length-append, append_assoc}
 use Rattle.std.proofs.lemmas.List.{append-nil, append_cancel_left}
 use Rattle.std.proofs.lemmas.List.Elements.{All-take, All-drop}
 use Rattle.std.proofs.Math.Seq.{take-append_seam, drop-append_seam}
@@ -194,3 +194,42 @@ car-one bytes roots others sections those ending other p q =
     let lists = sections-one (length p.start) p.rest sections those ending other p.are_sections
     (subst (λ (l : List ℕ). AreSections (length p.start) l those other) (sym rest) at_start) in
     (one.1, lists.0, lists.1)
+
+-- ---- a front of a CAR
+
+-- bytes that begin with a section have it as their first
+sections-next : (at : ℕ) (bytes : List ℕ) (all : List Section) (ending : Option CarRefusal) (front rest cid block : List ℕ) → bytes ≡ front ++ rest → IsSection front cid block →
+    AreSections at bytes all ending → (tail : List Section) × (all ≡ record { offset = at; cid = cid; block = block } ∷ tail) × AreSections (at + length front) rest tail ending
+sections-next at _ _ _ front rest cid block e is car.AreSections.end =
+    absurd (let len : 0 ≡ length front + length rest = ap length e ∙ length-append front rest in omega (arith, some-front front cid block is))
+sections-next at bytes _ _ front rest cid block e is (car.AreSections.refused {fault = fault} some i) =
+    absurd (section-none front rest cid block fault is (subst (λ (l : List ℕ). SectionFault l fault) e i))
+sections-next at bytes _ _ front rest cid block e is (car.AreSections.more {sections = rest_of} {ending = end_of} b y c d f i then) =
+    let same = sections-same front b rest y cid c block d (sym e ∙ f) is i in
+    let at_front : AreSections (at + length front) y rest_of end_of =
+    subst (λ (n : ℕ). AreSections n y rest_of end_of) (ap (λ (l : List ℕ). at + length l) (sym same.0)) then in (
+      rest_of,
+      ap (λ (x : List ℕ). record { offset = at; cid = x; block = d } ∷ rest_of) (sym same.2) ∙ ap (λ (x : List ℕ). record { offset = at; cid = cid; block = x } ∷ rest_of) (sym same.3),
+      subst (λ (l : List ℕ). AreSections (at + length front) l rest_of end_of) (sym same.1) at_front,
+    )
+
+sections-split : (at : ℕ) (front : List ℕ) (sections : List Section) (ended : Option CarRefusal) → AreSections at front sections ended → ended ≡ None →
+    (rest : List ℕ) (all : List Section) (ending : Option CarRefusal) → AreSections at (front ++ rest) all ending → (more : List Section) × (all ≡ sections ++ more) × AreSections (at + length front) rest more ending
+sections-split at _ _ _ car.AreSections.end none rest all ending h = (all, refl, subst (λ (n : ℕ). AreSections n rest all ending) (omega arith) h)
+sections-split at _ _ _ (car.AreSections.refused some fault) none rest all ending h = absurd (let no : ⊥ = cc (none) in no)
+sections-split at front _ _ (car.AreSections.more f r cid block e is later) none rest all ending h =
+    let n = sections-next at (front ++ rest) all ending f (r ++ rest) cid block (ap (λ (l : List ℕ). l ++ rest) e ∙ append_assoc f r rest) is h in
+    let s = sections-split (at + length f) r _ _ later none rest n.0 ending n.2 in
+    let place : at + length f + length r ≡ at + length front = omega (arith, ap length e, length-append f r) in
+    (s.0, n.1 ∙ ap (λ (l : List Section). record { offset = at; cid = cid; block = block } ∷ l) s.1, subst (λ (k : ℕ). AreSections k rest s.0 ending) place s.2)
+
+-- what a front of a CAR says the whole says
+pub car-split : (front rest : List ℕ) (roots others : List (List ℕ)) (sections all : List Section) (ending : Option CarRefusal) →
+    IsCar front roots sections None → IsCar (front ++ rest) others all ending → (roots ≡ others) × ((more : List Section) × (all ≡ sections ++ more))
+car-split front rest roots others sections all ending p q =
+    let same : p.start ++ (p.rest ++ rest) ≡ q.start ++ q.rest = sym (append_assoc p.start p.rest rest) ∙ ap (λ (l : List ℕ). l ++ rest) (sym p.spelled) ∙ q.spelled in
+    let one = start-one p.start q.start (p.rest ++ rest) q.rest roots others same p.is_start q.is_start in
+    let behind : p.rest ++ rest ≡ q.rest = append_cancel_left p.start (p.rest ++ rest) q.rest (same ∙ ap (λ (l : List ℕ). l ++ q.rest) (sym one.0)) in
+    let at_start : AreSections (length p.start) q.rest all ending = subst (λ (n : ℕ). AreSections n q.rest all ending) (ap length (sym one.0)) q.are_sections in
+    let s = sections-split (length p.start) p.rest sections None p.are_sections refl rest all ending (subst (λ (l : List ℕ). AreSections (length p.start) l all ending) (sym behind) at_start) in
+    (one.1, (s.0, s.1))

@@ -1,11 +1,12 @@
--- What is taken from the front of an input, and what is wrong with the bytes that a length counts.
-use Rattle.std.specs.Prelude.{◌≡◌, ℕ, ◌<◌, ◌^◌, List, [], ◌++◌, length, Option, Some, None, Err, ⊤}
+-- What is taken from the front of an input, where it exposes its bytes, and what is wrong with the bytes that a length counts.
+use Rattle.std.specs.Prelude.{◌≡◌, ℕ, ◌<◌, ◌^◌, List, [], ◌++◌, length, Option, Some, None, Err, ⊤, ◌∷◌, MatchOption, Result, MatchResult, ◌+◌, ◌≤◌, slice_index_or}
 use Rattle.std.specs.Io.KnownBytes.{Keeps, Consumes, IsAtEnd}
 use Rattle.ss_cid.specs.Cid.{cid_at}
 use Rattle.ss_cid.specs.declared.fault.CidFault.{CidFault}
 use Rattle.ss_car.specs.Car.{framed, IsHeader, IsStart, IsSection, SectionFault}
 use Rattle.ss_car.specs.declared.fault.CarFault.{CarFault}
-use Rattle.ss_car.specs.declared.fault.CarFault.TheVariants.{BadHeader, BadVersion, ZeroSection, BadCid, NoMemory}
+use Rattle.std.specs.Option.{ForSome}
+use Rattle.ss_io.specs.Causes.{Rose}
 
 -- the input begins with a header with these roots, of so many bytes with its length, which were taken
 pub record TakesStart (old new : Option (List ℕ)) (roots : List (List ℕ)) (taken : ℕ) : Type 0 where
@@ -30,14 +31,44 @@ NextFault bytes fault = (0 < length bytes) × SectionFault bytes fault
 
 -- what is wrong with the bytes of a header, or memory ran out
 abbrev pub HeaderFault : List ℕ → CarFault → Type 0
-HeaderFault body NoMemory = ⊤
-HeaderFault body BadHeader = (roots : List (List ℕ)) (version : ℕ) → IsHeader body roots version → ⊥
-HeaderFault body (BadVersion version) = (roots : List (List ℕ)) × (IsHeader body roots version × (version ≡ 1 → ⊥))
+HeaderFault body CarFault.NoMemory = ⊤
+HeaderFault body CarFault.BadHeader = (roots : List (List ℕ)) (version : ℕ) → IsHeader body roots version → ⊥
+HeaderFault body (CarFault.BadVersion version) = (roots : List (List ℕ)) × (IsHeader body roots version × (version ≡ 1 → ⊥))
 HeaderFault body _ = ⊥
 
 -- what is wrong with the bytes of a section, or memory ran out
 abbrev pub BodyFault : List ℕ → CarFault → Type 0
-BodyFault body NoMemory = ⊤
-BodyFault body ZeroSection = body ≡ []
-BodyFault body BadCid = (0 < length body) × ((fault : CidFault) × (cid_at body ≡ Err fault))
+BodyFault body CarFault.NoMemory = ⊤
+BodyFault body CarFault.ZeroSection = body ≡ []
+BodyFault body CarFault.BadCid = (0 < length body) × ((fault : CidFault) × (cid_at body ≡ Err fault))
 BodyFault body _ = ⊥
+
+-- ---- how a step reads the input
+
+-- a fault of the bytes that were left holds of them; the source and memory may fail whatever they are
+abbrev pub Blames : (List ℕ → CarFault → Type 0) → Option (List ℕ) → CarFault → Type 0
+Blames holds left CarFault.ReadFault = ⊤
+Blames holds left CarFault.NoMemory = ⊤
+Blames holds left fault = ForSome left (λ bytes. holds bytes fault)
+
+-- the next byte was taken, or the input has ended
+abbrev pub TakesByte : Option (List ℕ) → Option (List ℕ) → Option ℕ → Type 0
+TakesByte old new found = MatchOption found (Keeps old new × IsAtEnd new) (λ byte. Consumes old new (byte ∷ []))
+
+-- the source's count of faults rose where it is what failed, and stayed for every other fault
+abbrev pub FaultHasCause : ℕ → ℕ → CarFault → Type 0
+FaultHasCause before now CarFault.ReadFault = Rose before now
+FaultHasCause before now _ = now ≡ before
+
+abbrev pub HasCause : {X : Type 0} → ℕ → ℕ → Result X CarFault → Type 0
+HasCause before now result = MatchResult result (λ _. now ≡ before) (FaultHasCause before now)
+
+-- ---- the bytes of a length as they come
+
+-- the last byte, of at most nine, is the only one without the high bit
+pub record EndsOnce (bytes : List ℕ) : Type 0 where
+  pub last : ℕ
+  pub len : length bytes ≡ last + 1
+  pub few : last < 9
+  pub high : (j : ℕ) → j < last → 128 ≤ slice_index_or bytes j 0
+  pub ends : slice_index_or bytes last 0 < 128

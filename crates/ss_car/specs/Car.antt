@@ -6,12 +6,9 @@ use Rattle.std.specs.Prelude.{◌≡◌, ◌⊎◌, ℕ, ◌+◌, ◌<◌, ◌�
 use Rattle.ss_cid.specs.Cid.{IsCid, cid_at}
 use Rattle.ss_cid.specs.Varint.{varint, varint_at}
 use Rattle.ss_cid.specs.declared.fault.CidFault.{CidFault}
-use Rattle.ss_cid.specs.declared.fault.CidFault.TheVariants.{Short, LongVarint}
 use Rattle.ss_cbor.specs.Item as item
 use Rattle.ss_cbor.specs.Parts.{AreParts}
-use Rattle.ss_car.specs.declared.fault.CarFault.{CarFault}
-use Rattle.ss_car.specs.declared.fault.CarFault.TheVariants.{Truncated, BadHeader, BadVersion, ZeroSection, TooLarge, BadCid, BadLength}
-use Rattle.ss_car.specs.declared.fault.CarRefusal.{CarRefusal}
+use Rattle.ss_car.specs.declared.fault.{CarFault.CarFault, CarRefusal.CarRefusal}
 
 -- ---- the forms
 
@@ -49,29 +46,29 @@ pub record IsSection (bytes cid block : List ℕ) : Type 0 where
 
 -- the bytes begin with no varint
 pub data LengthFault (bytes : List ℕ) : CarFault → Type 0 where
-  cut : varint_at bytes 0 ≡ Err (Short (length bytes)) → LengthFault bytes Truncated
-  long : varint_at bytes 0 ≡ Err (LongVarint 0) → LengthFault bytes BadLength
+  cut : varint_at bytes 0 ≡ Err (CidFault.Short (length bytes)) → LengthFault bytes CarFault.Truncated
+  long : varint_at bytes 0 ≡ Err (CidFault.LongVarint 0) → LengthFault bytes CarFault.BadLength
 
 -- the bytes do not begin with a length within a limit and as many bytes
 pub data UnframedFault (limit : ℕ) (bytes : List ℕ) : CarFault → Type 0 where
   no_length : {fault : CarFault} → LengthFault bytes fault → UnframedFault limit bytes fault
-  too_large : (len : ℕ) (rest : List ℕ) → bytes ≡ varint len ++ rest → len < 2 ^ 63 → limit < len → UnframedFault limit bytes TooLarge
-  body_cut : (len : ℕ) (rest : List ℕ) → bytes ≡ varint len ++ rest → len ≤ limit → length rest < len → UnframedFault limit bytes Truncated
+  too_large : (len : ℕ) (rest : List ℕ) → bytes ≡ varint len ++ rest → len < 2 ^ 63 → limit < len → UnframedFault limit bytes CarFault.TooLarge
+  body_cut : (len : ℕ) (rest : List ℕ) → bytes ≡ varint len ++ rest → len ≤ limit → length rest < len → UnframedFault limit bytes CarFault.Truncated
 
 -- the bytes begin with no header of version 1
 pub data StartFault (bytes : List ℕ) : CarFault → Type 0 where
   unframed : {fault : CarFault} → UnframedFault 1048576 bytes fault → StartFault bytes fault
   no_header : (body rest : List ℕ) → bytes ≡ framed body ++ rest → length body ≤ 1048576 →
-      ((roots : List (List ℕ)) (version : ℕ) → IsHeader body roots version → ⊥) → StartFault bytes BadHeader
+      ((roots : List (List ℕ)) (version : ℕ) → IsHeader body roots version → ⊥) → StartFault bytes CarFault.BadHeader
   other_version : (body rest : List ℕ) (roots : List (List ℕ)) (version : ℕ) → bytes ≡ framed body ++ rest →
-      length body ≤ 1048576 → IsHeader body roots version → (version ≡ 1 → ⊥) → StartFault bytes (BadVersion version)
+      length body ≤ 1048576 → IsHeader body roots version → (version ≡ 1 → ⊥) → StartFault bytes (CarFault.BadVersion version)
 
 -- the bytes, of which there are some, begin with no section
 pub data SectionFault (bytes : List ℕ) : CarFault → Type 0 where
   unframed : {fault : CarFault} → UnframedFault 8388608 bytes fault → SectionFault bytes fault
-  zero_length : (rest : List ℕ) → bytes ≡ varint 0 ++ rest → SectionFault bytes ZeroSection
+  zero_length : (rest : List ℕ) → bytes ≡ varint 0 ++ rest → SectionFault bytes CarFault.ZeroSection
   no_cid : (body rest : List ℕ) (fault : CidFault) → bytes ≡ framed body ++ rest → 0 < length body →
-      length body ≤ 8388608 → cid_at body ≡ Err fault → SectionFault bytes BadCid
+      length body ≤ 8388608 → cid_at body ≡ Err fault → SectionFault bytes CarFault.BadCid
 
 -- ---- what a CAR says
 

@@ -1,5 +1,4 @@
--- A source that is read through a buffer: the bytes that are left, where it exposes them, its count of faults, and the
--- references that it holds.
+-- A source that is read through a buffer, as the reader sees it.
 use Rattle.std.specs.Prelude.{ℕ, List, Option}
 use Rattle.ss_io.specs.declared.source.Source.{Ghosts as Source}
 use Rattle.ss_io.specs.declared.buffered.Buffered.{Buffered}

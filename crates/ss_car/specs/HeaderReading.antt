@@ -2,14 +2,10 @@
 -- the length of the whole header.
 use Rattle.std.specs.Prelude.{ℕ, zero, suc, ◌==◌, nat_eq, if◌then◌else◌, List, [], ◌∷◌, length, codes, Option, Some, None, Result, Ok}
 use Rattle.std.specs.Cmp.Lexicographic.{pointwise}
-use Rattle.ss_cbor.specs.Item.{Part, uint, text, array, map, link}
-use Rattle.ss_cbor.specs.Reading.{part_at}
+use Rattle.ss_cbor.specs.Item.{Part, text, map}
+use Rattle.ss_cbor.specs.Options.{◌>>=◌, or_else}
+use Rattle.ss_cbor.specs.Reading.{part_at, as_count, as_number, as_link}
 use Rattle.ss_cbor.specs.declared.fault.CborFault.{CborFault}
-
-infixl 10 ◌>>=◌
-abbrev pub ◌>>=◌ : {A B : Type 0} → Option A → (A → Option B) → Option B
-(Some x) >>= f = f x
-None >>= f = None
 
 -- what a part says, where it is of this kind, and what follows it
 abbrev pub as_pairs : Result (Part × List ℕ) CborFault → Option (ℕ × List ℕ)
@@ -19,18 +15,6 @@ as_pairs _ = None
 abbrev pub as_key : Result (Part × List ℕ) CborFault → Option (List ℕ × List ℕ)
 as_key (Ok (text key, rest)) = Some (key, rest)
 as_key _ = None
-
-abbrev pub as_count : Result (Part × List ℕ) CborFault → Option (ℕ × List ℕ)
-as_count (Ok (array n, rest)) = Some (n, rest)
-as_count _ = None
-
-abbrev pub as_number : Result (Part × List ℕ) CborFault → Option (ℕ × List ℕ)
-as_number (Ok (uint n, rest)) = Some (n, rest)
-as_number _ = None
-
-abbrev pub as_link : Result (Part × List ℕ) CborFault → Option (List ℕ × List ℕ)
-as_link (Ok (link cid, rest)) = Some (cid, rest)
-as_link _ = None
 
 -- what follows the head of a map of two pairs
 unfoldable pub two_pairs_from : ℕ → List ℕ → Option (List ℕ)
@@ -86,11 +70,6 @@ version_first end bytes = do
   version ← version_from end pairs
   roots ← roots_from end version.1
   whole (roots.0, version.0) roots.1
-
--- the first that there is
-abbrev pub or_else : {A : Type 0} → Option A → Option A → Option A
-or_else (Some x) other = Some x
-or_else None other = other
 
 -- the map with its two keys in either order
 unfoldable pub header_in : List ℕ → Option (List (List ℕ) × ℕ)

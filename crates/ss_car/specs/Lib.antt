@@ -1,9 +1,6 @@
 pub mod Fault
 pub mod Car
 pub mod HeaderReading
-pub mod Reads
-pub mod Told
-pub mod Lengths
 pub mod Front
 pub mod Bodies
 pub mod Reader

@@ -1,13 +1,10 @@
--- A reader of a CAR as its caller sees it: the roots, how many bytes were given so far, the refusal, if there was one, and
--- the input: the bytes that are left, where the source exposes them, the source's count of faults, and the references that
--- it holds.
+-- A reader of a CAR and its input, as the caller sees them.
 use Rattle.std.specs.Prelude.{◌≡◌, ℕ, ◌+◌, List, ◌++◌, length, Option, Some, None, Result, MatchResult}
 use Rattle.std.specs.Io.KnownBytes.{Keeps, IsAtEnd}
 use Rattle.ss_io.specs.declared.source.Source.{Ghosts as Source}
-use Rattle.ss_car.specs.Bodies.{TakesSection}
+use Rattle.ss_car.specs.Bodies.{TakesSection, FaultHasCause}
 use Rattle.ss_car.specs.Car.{framed}
 use Rattle.ss_car.specs.Front.{left_of, faults_of, place_of}
-use Rattle.ss_car.specs.Told.{FaultHasCause}
 use Rattle.ss_car.specs.declared.fault.CarRefusal.{CarRefusal}
 use Rattle.ss_car.specs.declared.reader.CarReader.{CarReader}
 

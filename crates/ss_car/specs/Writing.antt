@@ -8,7 +8,6 @@ use Rattle.ss_io.specs.Causes.{Rose}
 use Rattle.ss_io.specs.Written.{AppendsFront}
 use Rattle.ss_car.specs.Car.{framed, Section}
 use Rattle.ss_car.specs.declared.fault.CarWriteFault.{CarWriteFault}
-use Rattle.ss_car.specs.declared.fault.CarWriteFault.TheVariants.{WriteFault, NoMemory}
 
 -- ---- the bytes
 
@@ -43,11 +42,11 @@ sections_from at ((cid, block) ∷ blocks) =
 -- all of the bytes were written; or a prefix of them, where the sink failed; or none, out of memory
 abbrev pub Writes : Option (List ℕ) → Option (List ℕ) → List ℕ → Result (Unit {0}) CarWriteFault → Type 0
 Writes old new bytes (Ok _) = Appends old new bytes
-Writes old new bytes (Err WriteFault) = AppendsFront old new bytes
-Writes old new bytes (Err NoMemory) = Keeps old new
+Writes old new bytes (Err CarWriteFault.WriteFault) = AppendsFront old new bytes
+Writes old new bytes (Err CarWriteFault.NoMemory) = Keeps old new
 
 -- the sink's count of faults rose where it is what failed, and stayed in every other case
 abbrev pub WriteHasCause : ℕ → ℕ → Result (Unit {0}) CarWriteFault → Type 0
 WriteHasCause before now (Ok _) = now ≡ before
-WriteHasCause before now (Err WriteFault) = Rose before now
-WriteHasCause before now (Err NoMemory) = now ≡ before
+WriteHasCause before now (Err CarWriteFault.WriteFault) = Rose before now
+WriteHasCause before now (Err CarWriteFault.NoMemory) = now ≡ before

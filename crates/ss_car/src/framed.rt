@@ -6,8 +6,7 @@ ghost use Rattle.ss_cid.specs.declared.fault.CidFault.TheVariants.{LongVarint};
 ghost use Rattle.ss_io.specs.Causes.{HasCause as HasCallCause};
 ghost use Rattle.ss_car.specs.Car.{framed, LengthFault, UnframedFault};
 ghost use Rattle.ss_car.specs.Front.{left_of, faults_of, place_of};
-ghost use Rattle.ss_car.specs.Lengths.{EndsOnce};
-ghost use Rattle.ss_car.specs.Told.{Blames, TakesByte, HasCause};
+ghost use Rattle.ss_car.specs.Bodies.{EndsOnce, Blames, TakesByte, HasCause};
 
 use crate::fault::CarFault;
 use ss_cid::{CidFault, read_varint};

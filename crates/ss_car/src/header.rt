@@ -3,7 +3,7 @@ ghost use Rattle.std.specs.Prelude.{◌≡◌, length, IfOk, IfErr};
 ghost use Rattle.ss_car.specs.Bodies.{HeaderFault};
 ghost use Rattle.ss_car.specs.Car.{IsHeader};
 ghost use Rattle.ss_car.specs.HeaderReading.{two_pairs_from, key_from, link_from, links_from, roots_from, version_from, roots_first, version_first, header_in};
-ghost use Rattle.ss_car.specs.Reads.{Reads, Passes};
+ghost use Rattle.ss_cbor.specs.Position.{Reads, Passes};
 
 use crate::fault::CarFault;
 use ss_cbor::{Cursor, Item};

@@ -45,6 +45,12 @@ pub fn a_car_says_one_thing()
         IsCar bytes roots sections ending → IsCar bytes others those other → (roots ≡ others) × (sections ≡ those) × (ending ≡ other) }
 {}
 
+/// What the front of a file says, the file says: its roots, and its sections before any others.
+pub fn a_front_says_what_the_file_does()
+    ensures { (front rest : List ℕ) (roots others : List (List ℕ)) (sections all : List Section) (ending : Option CarRefusal) →
+        IsCar front roots sections None → IsCar (front ++ rest) others all ending → (roots ≡ others) × ((more : List Section) × (all ≡ sections ++ more)) }
+{}
+
 /// What is written within the limits is read again: the roots, and each CID with its data.
 pub fn written_is_read()
     ensures header { (roots : List (List ℕ)) → All IsCid roots → length (header_bytes roots) ≤ 1048576 →

@@ -1,9 +1,8 @@
 //! Reading a CAR section by section.
 ghost use Rattle.std.specs.Prelude.{◌≡◌, ◌<◌, ◌^◌, Some, None, Err, IfOk, IfErr, OnOk};
-ghost use Rattle.ss_car.specs.Bodies.{NextFault, TakesStart};
+ghost use Rattle.ss_car.specs.Bodies.{NextFault, TakesStart, Blames, FaultHasCause};
 ghost use Rattle.ss_car.specs.Car.{StartFault};
 ghost use Rattle.ss_car.specs.Reader.{roots_of, taken_of, refusal_of, input_left, input_faults, input_place, GivesNext, HasCause};
-ghost use Rattle.ss_car.specs.Told.{Blames, FaultHasCause};
 ghost use Rattle.ss_car.specs.declared.fault.CarRefusal.{CarRefusal};
 
 use crate::fault::{CarFault, CarRefusal};

@@ -3,8 +3,7 @@ use Rattle.std.specs.Prelude.{◌≡◌, ◌≢◌, ℕ, zero, suc, ◌+◌, ◌
 use Rattle.ss_cid.specs.Steps.{◌>>=◌}
 use Rattle.ss_cbor.specs.Item.{Part, items_in, links_of, IsItem}
 use Rattle.ss_cbor.specs.Reading.{fails, part_at}
-use Rattle.ss_cbor.specs.declared.fault.CborFault.{CborFault}
-use Rattle.ss_cbor.specs.declared.fault.CborKind.TheVariants.{Truncated, Trailing}
+use Rattle.ss_cbor.specs.declared.fault.{CborFault.CborFault, CborKind.TheVariants.Truncated, CborKind.TheVariants.Trailing}
 
 -- the first fault of so many items, from left to right: of the first part, or behind it
 pub data FirstFault (end : ℕ) : ℕ → List ℕ → CborFault → Type 0 where

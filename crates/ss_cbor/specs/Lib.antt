@@ -9,3 +9,4 @@ pub mod Parts
 pub mod Position
 pub mod Part
 pub mod Gives
+pub mod Options

@@ -1,5 +1,5 @@
 -- Where a cursor stands.
-use Rattle.std.specs.Prelude.{ℕ, ◌-◌, List, length}
+use Rattle.std.specs.Prelude.{◌≡◌, ℕ, ◌-◌, List, length, Option, Some, None, MatchOption}
 
 pub record Position : Type 0 where
   -- the bytes that are left
@@ -14,3 +14,13 @@ start_of bytes = record { rest = bytes; end = length bytes }
 -- how many bytes of the input are read
 abbrev pub place_of : Position → ℕ
 place_of p = p.end - length p.rest
+
+-- the cursor went from one position to another, and what it returned is what reading from the first gives
+pub record Reads {X Y : Type 0} (view : X → Y) (from : ℕ → List ℕ → Option (Y × List ℕ)) (old new : Position) (result : Option X) : Type 0 where
+  pub value : MatchOption result (from old.end old.rest ≡ None) (λ x. from old.end old.rest ≡ Some (view x, new.rest))
+  pub end : new.end ≡ old.end
+
+-- the cursor passed what this reads
+pub record Passes (from : ℕ → List ℕ → Option (List ℕ)) (old new : Position) (result : Option (Unit {0})) : Type 0 where
+  pub value : MatchOption result (from old.end old.rest ≡ None) (λ _. from old.end old.rest ≡ Some new.rest)
+  pub end : new.end ≡ old.end

@@ -6,9 +6,7 @@ use Rattle.ss_cid.specs.Cid.{cid_len}
 use Rattle.ss_cid.specs.Steps.{◌>>=◌}
 use Rattle.ss_cid.specs.declared.fault.CidFault.{CidFault}
 use Rattle.ss_cbor.specs.Item.{Part, items_in, uint, nint, blob, text, array, map, link, float, bool, null}
-use Rattle.ss_cbor.specs.declared.fault.CborFault.{CborFault}
-use Rattle.ss_cbor.specs.declared.fault.CborKind.{CborKind}
-use Rattle.ss_cbor.specs.declared.fault.CborKind.TheVariants.{Truncated, LongHead, Indefinite, OtherTag, BadLink, BadSimple, CountTooLarge}
+use Rattle.ss_cbor.specs.declared.fault.{CborFault.CborFault, CborKind.CborKind}
 
 -- a fault of this kind at a place
 abbrev pub fails : {A : Type 0} → CborKind → ℕ → Result A CborFault
@@ -17,8 +15,8 @@ fails kind at = Err (record { kind = kind; at = at })
 -- an argument in bytes of its own, which is no less than the first that a shorter form has no room for
 unfoldable pub wide_at : Width → ℕ → ℕ → ℕ → List ℕ → Result (ℕ × List ℕ) CborFault
 wide_at w least at end bytes =
-    if nat_lt (length bytes) (byte_len w) then fails Truncated end
-    else if nat_lt (from_be_bytes w (take (byte_len w) bytes)) least then fails LongHead at
+    if nat_lt (length bytes) (byte_len w) then fails CborKind.Truncated end
+    else if nat_lt (from_be_bytes w (take (byte_len w) bytes)) least then fails CborKind.LongHead at
     else Ok (from_be_bytes w (take (byte_len w) bytes), drop (byte_len w) bytes)
 
 -- byte strings, texts, arrays and maps have a form without a length in CBOR, which is refused here
@@ -33,18 +31,18 @@ argument_at major low at end bytes =
     else if low == 25 then wide_at w16 (2 ^ 8) at end bytes
     else if low == 26 then wide_at w32 (2 ^ 16) at end bytes
     else if low == 27 then wide_at w64 (2 ^ 32) at end bytes
-    else if (low == 31) && has_indefinite_form major then fails Indefinite at
-    else fails LongHead at
+    else if (low == 31) && has_indefinite_form major then fails CborKind.Indefinite at
+    else fails CborKind.LongHead at
 
 -- so many bytes, and those behind them
 unfoldable pub bytes_at : ℕ → ℕ → List ℕ → Result (List ℕ × List ℕ) CborFault
 bytes_at len end bytes =
-    if nat_lt (length bytes) len then fails Truncated end else Ok (take len bytes, drop len bytes)
+    if nat_lt (length bytes) len then fails CborKind.Truncated end else Ok (take len bytes, drop len bytes)
 
 -- a part that holds items, which with the `due` items behind it are at most 2 ^ 63 - 1
 unfoldable pub holding : Part → ℕ → ℕ → List ℕ → Result (Option Part × List ℕ) CborFault
 holding part due at bytes =
-    if nat_lt (due + items_in part) (2 ^ 63) then Ok (Some part, bytes) else fails CountTooLarge at
+    if nat_lt (due + items_in part) (2 ^ 63) then Ok (Some part, bytes) else fails CborKind.CountTooLarge at
 
 -- what a head stands for by its major type and argument, with its content: a part, or nothing yet for tag 42
 unfoldable pub content_at : ℕ → ℕ → ℕ → ℕ → ℕ → List ℕ → Result (Option Part × List ℕ) CborFault
@@ -56,7 +54,7 @@ content_at major n due at end bytes =
     else if major == 4 then holding (array n) due at bytes
     else if major == 5 then holding (map n) due at bytes
     else if n == 42 then Ok (None, bytes)
-    else fails OtherTag at
+    else fails CborKind.OtherTag at
 
 -- what a first byte of major type 7 stands for
 unfoldable pub simple_at : ℕ → ℕ → ℕ → List ℕ → Result (Option Part × List ℕ) CborFault
@@ -65,11 +63,11 @@ simple_at byte at end bytes =
     else if byte == 0xf5 then Ok (Some (bool true), bytes)
     else if byte == 0xf6 then Ok (Some null, bytes)
     else if byte == 0xfb then (bytes_at 8 end bytes >>= λ x. Ok (Some float, x.1))
-    else fails BadSimple at
+    else fails CborKind.BadSimple at
 
 -- one head with its content, behind which `due` items are due: a part, or nothing yet for tag 42
 unfoldable pub piece_at : ℕ → ℕ → List ℕ → Result (Option Part × List ℕ) CborFault
-piece_at due end [] = fails Truncated end
+piece_at due end [] = fails CborKind.Truncated end
 piece_at due end (byte ∷ bytes) =
     let major = byte / 32 in
     let at = end - (length bytes + 1) in
@@ -86,8 +84,8 @@ is_cid bytes = is_whole (cid_len bytes) (length bytes)
 
 -- what stands behind tag 42 is a byte string, the byte 00 and a whole CID; else the tag is at fault
 unfoldable pub linked : ℕ → Option Part → Result Part CborFault
-linked at (Some (blob (zero ∷ cid))) = if is_cid cid then Ok (link cid) else fails BadLink at
-linked at _ = fails BadLink at
+linked at (Some (blob (zero ∷ cid))) = if is_cid cid then Ok (link cid) else fails CborKind.BadLink at
+linked at _ = fails CborKind.BadLink at
 
 -- The part that a piece at a place begins. Behind tag 42 the faults of the next head come first.
 unfoldable pub part_from : ℕ → ℕ → ℕ → Option Part → List ℕ → Result (Part × List ℕ) CborFault
@@ -102,3 +100,17 @@ unfoldable pub part_at : ℕ → ℕ → List ℕ → Result (Part × List ℕ) 
 part_at due end bytes = do
   piece ← piece_at due end bytes
   part_from due end (end - length bytes) piece.0 piece.1
+
+-- ---- one part of a kind: what an array's head, a number or a link says, and what follows it
+
+abbrev pub as_count : Result (Part × List ℕ) CborFault → Option (ℕ × List ℕ)
+as_count (Ok (array n, rest)) = Some (n, rest)
+as_count _ = None
+
+abbrev pub as_number : Result (Part × List ℕ) CborFault → Option (ℕ × List ℕ)
+as_number (Ok (uint n, rest)) = Some (n, rest)
+as_number _ = None
+
+abbrev pub as_link : Result (Part × List ℕ) CborFault → Option (List ℕ × List ℕ)
+as_link (Ok (link cid, rest)) = Some (cid, rest)
+as_link _ = None

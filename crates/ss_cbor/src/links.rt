@@ -1,5 +1,5 @@
 //! The links of an item.
-ghost use Rattle.std.specs.Prelude.{◌≡◌, ◌∷◌, [], ◌≤◌, length, IfSome, IfNone};
+ghost use Rattle.std.specs.Prelude.{◌≡◌, ◌∷◌, [], IfSome, IfNone};
 ghost use Rattle.std.specs.Iterator.{YieldsFirst, item_count};
 ghost use Rattle.ss_cbor.specs.Links.{links_left};
 ghost use Rattle.ss_cid.specs.Cid.{IsCid};

@@ -1,5 +1,5 @@
 //! Reading one part. Its steps are inlined, since a part is large to hand on from one to the next.
-ghost use Rattle.std.specs.Prelude.{◌≡◌, ℕ, ◌+◌, ◌*◌, ◌<◌, ◌≤◌, ◌^◌, length, IfOk, IsOk, Result, Err, Some};
+ghost use Rattle.std.specs.Prelude.{◌≡◌, ◌+◌, ◌*◌, ◌<◌, ◌≤◌, ◌^◌, length, IfOk, Result, Err, Some};
 ghost use Rattle.ss_cbor.specs.Gives.{Gives};
 ghost use Rattle.ss_cbor.specs.Item.{items_in};
 ghost use Rattle.ss_cbor.specs.Part.{raw_part_of, raw_piece_of};

@@ -2,7 +2,7 @@
 use Rattle.std.proofs.Common.{◌≡◌, ℕ, zero, suc, ◌+◌, ◌-◌, ◌<◌, ◌≤◌, true, false, List, Some, None, refl, sym, ◌∙◌, arith}
 use Rattle.ss_cbor.specs.Position.{Position}
 use Rattle.ss_chain.specs.HeaderReading.{link_from, item_from, leads_with_links, after_items}
-use Rattle.ss_chain.specs.Reads.{Reads, Passes}
+use Rattle.ss_cbor.specs.Position.{Reads, Passes}
 
 -- ---- links
 
@@ -50,14 +50,14 @@ module _ (n i : ℕ) (first now : Position) (left : ItemsLeft n i first now) whe
       let step : after_items (n - i) now.end now.rest ≡ after_items (n - (i + 1)) next.end next.rest = rw (e, reads.value, reads.end) refl in
       record { bound = omega arith; end = reads.end ∙ left.end; same = left.same ∙ step }
 
-  pub items-stop : {X : Type 0} (view : X → List ℕ) (next : Position) → i < n → Reads {X = X} view item_from now next None → Passes n first next None
+  pub items-stop : {X : Type 0} (view : X → List ℕ) (next : Position) → i < n → Reads {X = X} view item_from now next None → Passes (after_items n) first next None
   unfolding after_items
   items-stop view next lt reads =
       let e : n - i ≡ suc (n - (i + 1)) = omega arith in
       let step : after_items (n - i) now.end now.rest ≡ None = rw (e, reads.value) refl in
       record { value = left.same ∙ step; end = reads.end ∙ left.end }
 
-  pub items-end : n ≤ i → Passes n first now (Some tt)
+  pub items-end : n ≤ i → Passes (after_items n) first now (Some tt)
   unfolding after_items
   items-end le =
       let e : n - i ≡ zero = omega arith in

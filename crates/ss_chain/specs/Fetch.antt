@@ -4,7 +4,6 @@ use Rattle.std.specs.FinMap as map
 use Rattle.ss_cid.specs.Cid.{hash_of, digest_of}
 use Rattle.ss_cid.specs.Maps.{Kept}
 use Rattle.ss_chain.specs.declared.fetched.Fetched.{Fetched}
-use Rattle.ss_chain.specs.declared.fetched.Fetched.TheVariants.{Found, NotFound, Fault}
 
 unfoldable pub is_identity : List ℕ → Bool
 is_identity cid = hash_of cid == 0
@@ -19,17 +18,17 @@ is_known holds cid = is_identity cid || holds cid
 
 -- NotFound is answered exactly where the CID is not known
 abbrev pub NotFoundUnless : Bool → Fetched → Type 0
-NotFoundUnless known NotFound = known ≡ false
+NotFoundUnless known Fetched.NotFound = known ≡ false
 NotFoundUnless known _ = known ≡ true
 
 -- a block that was found is fetch's, where the map is told
 abbrev pub IsFetched : Option Kept → List ℕ → Fetched → Type 0
-IsFetched (Some kept) cid (Found block) = fetched kept cid ≡ Some block
+IsFetched (Some kept) cid (Fetched.Found block) = fetched kept cid ≡ Some block
 IsFetched _ cid _ = ⊤
 
 -- a block that was found under an identity CID is its digest
 abbrev pub IsDigest : List ℕ → Fetched → Type 0
-IsDigest cid (Found block) = is_identity cid ≡ true → block ≡ digest_of cid
+IsDigest cid (Fetched.Found block) = is_identity cid ≡ true → block ≡ digest_of cid
 IsDigest cid _ = ⊤
 
 -- the count of faults is greater than before, or stands at the last value of its type
@@ -38,5 +37,5 @@ Rose before now = min (before + 1) (2 ^ 64 - 1) ≤ now
 
 -- the count of faults rose in a fetch that answered Fault, and stayed in every other
 abbrev pub HasCause : ℕ → ℕ → Fetched → Type 0
-HasCause before now Fault = (before ≤ now) × Rose before now
+HasCause before now Fetched.Fault = (before ≤ now) × Rose before now
 HasCause before now _ = now ≡ before

@@ -1,28 +1,14 @@
 -- Reading a header from left to right: the fields, or nothing of a block that is no header. `end` is the length of the
 -- whole block.
-use Rattle.std.specs.Prelude.{ℕ, zero, suc, ◌^◌, ◌==◌, ◌&&◌, nat_lt, if◌then◌else◌, Bool, true, List, length, Option, Some, None, Result, Ok}
+use Rattle.std.specs.Prelude.{ℕ, zero, suc, ◌^◌, ◌==◌, ◌&&◌, nat_lt, if◌then◌else◌, Bool, true, List, length, Option, Some, None}
 use Rattle.ss_cid.specs.Cid.{codec_of}
-use Rattle.ss_cbor.specs.Item.{Part, uint, array, link}
 use Rattle.ss_cbor.specs.Fault.{item_at}
-use Rattle.ss_cbor.specs.Reading.{part_at}
-use Rattle.ss_cbor.specs.declared.fault.CborFault.{CborFault}
+use Rattle.ss_cbor.specs.Reading.{part_at, as_count, as_number, as_link}
 use Rattle.ss_chain.specs.Header.{HeaderFields}
 use Rattle.ss_chain.specs.Links.{item_links}
 use Rattle.ss_chain.specs.Steps.{◌>>=◌, accepted, passes}
 
--- what an array's head, a number or a link says, and what follows it
-abbrev pub as_count : Result (Part × List ℕ) CborFault → Option (ℕ × List ℕ)
-as_count (Ok (array n, rest)) = Some (n, rest)
-as_count _ = None
-
-abbrev pub as_number : Result (Part × List ℕ) CborFault → Option (ℕ × List ℕ)
-as_number (Ok (uint n, rest)) = Some (n, rest)
-as_number _ = None
-
-abbrev pub as_link : Result (Part × List ℕ) CborFault → Option (List ℕ × List ℕ)
-as_link (Ok (link cid, rest)) = Some (cid, rest)
-as_link _ = None
-
+-- an array's head, a number or a link, and what follows it
 unfoldable pub count_from : ℕ → List ℕ → Option (ℕ × List ℕ)
 count_from end bytes = as_count (part_at 0 end bytes)
 

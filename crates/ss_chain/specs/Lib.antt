@@ -4,7 +4,6 @@ pub mod Steps
 pub mod Links
 pub mod Header
 pub mod HeaderReading
-pub mod Reads
 pub mod Fields
 pub mod Follows
 pub mod First

@@ -6,7 +6,6 @@ use Rattle.std.specs.FinMap as map
 use Rattle.ss_cid.specs.Maps.{Kept}
 use Rattle.ss_chain.specs.Fetch.{is_identity}
 use Rattle.ss_chain.specs.declared.fetched.Fetched.{Fetched}
-use Rattle.ss_chain.specs.declared.fetched.Fetched.TheVariants.{NotFound, Fault}
 
 pub record MemoryBlocks : Type 0 where
   pub blocks : List (List ℕ × List ℕ)
@@ -26,7 +25,7 @@ fresh blocks = record { blocks = blocks; fetches = 0; failing = []; faults = 0 }
 
 -- after a fetch that answered so
 abbrev pub after_fetch : MemoryBlocks → Fetched → MemoryBlocks
-after_fetch m Fault = record m { fetches = min (m.fetches + 1) (2 ^ 64 - 1); faults = min (m.faults + 1) (2 ^ 64 - 1) }
+after_fetch m Fetched.Fault = record m { fetches = min (m.fetches + 1) (2 ^ 64 - 1); faults = min (m.faults + 1) (2 ^ 64 - 1) }
 after_fetch m _ = record m { fetches = min (m.fetches + 1) (2 ^ 64 - 1) }
 
 -- the next fetch is one of those that fail
@@ -35,8 +34,8 @@ IsListed m = Contains m.failing m.fetches
 
 -- a listed fetch of a block fails, and no other does
 abbrev pub FailsWhere : Type 0 → Fetched → Type 0
-FailsWhere listed Fault = listed
-FailsWhere listed NotFound = ⊤
+FailsWhere listed Fetched.Fault = listed
+FailsWhere listed Fetched.NotFound = ⊤
 FailsWhere listed _ = listed → ⊥
 
 -- equal maps have the same keys

@@ -1,10 +1,6 @@
--- One step after another, each of which may give nothing: then there is nothing.
+-- What is done with a value that there may be.
 use Rattle.std.specs.Prelude.{Bool, false, Option, Some, None, Result, Ok, Err}
-
-infixl 10 ◌>>=◌
-abbrev pub ◌>>=◌ : {A B : Type 0} → Option A → (A → Option B) → Option B
-(Some x) >>= f = f x
-None >>= f = None
+pub use Rattle.ss_cbor.specs.Options.{◌>>=◌, or_else}
 
 -- the value of a step that was not refused
 abbrev pub accepted : {A E : Type 0} → Result A E → Option A
@@ -15,8 +11,3 @@ accepted (Err e) = None
 abbrev pub passes : {A : Type 0} → (A → Bool) → Option A → Bool
 passes test (Some x) = test x
 passes test None = false
-
--- the first of two that there is
-abbrev pub or_else : {A : Type 0} → Option A → Option A → Option A
-or_else (Some x) other = Some x
-or_else None other = other

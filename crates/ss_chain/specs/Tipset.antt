@@ -7,7 +7,6 @@ use Rattle.ss_chain.specs.HeaderReading.{header_of}
 use Rattle.ss_chain.specs.First.{first_of}
 use Rattle.ss_chain.specs.Steps.{passes, or_else}
 use Rattle.ss_chain.specs.declared.tipset_fault.TipsetFault.{TipsetFault}
-use Rattle.ss_chain.specs.declared.tipset_fault.TipsetFault.TheVariants.{Empty, TooMany, Repeated, NotHeader, HeightDiffers, ParentsDiffer}
 
 -- the blocks are a tipset of this height
 pub record IsTipset (blocks : List (List ℕ × List ℕ)) (height : ℕ) : Type 0 where
@@ -29,14 +28,14 @@ same_cids = pointwise same_cid
 
 -- what is wrong with the number of blocks
 abbrev pub count_fault : ℕ → Option TipsetFault
-count_fault n = if n == 0 then Some Empty else if nat_lt 64 n then Some (TooMany n) else None
+count_fault n = if n == 0 then Some TipsetFault.Empty else if nat_lt 64 n then Some (TipsetFault.TooMany n) else None
 
 -- whether the CID at place i stands earlier too
 unfoldable pub stands_earlier : List (List ℕ) → ℕ → Bool
 stands_earlier cids i = passes (λ cid. list_any (same_cid cid) (take i cids)) (slice_get cids i)
 
 abbrev pub repeat_at : List (List ℕ) → ℕ → Option TipsetFault
-repeat_at cids i = if stands_earlier cids i then Some (Repeated i) else None
+repeat_at cids i = if stands_earlier cids i then Some (TipsetFault.Repeated i) else None
 
 -- what is wrong with these CIDs, whatever their blocks are
 unfoldable pub cids_fault : List (List ℕ) → Option TipsetFault
@@ -44,10 +43,10 @@ cids_fault cids = or_else (count_fault (length cids)) (first_of (repeat_at cids)
 
 -- what is wrong with a block at place i, beside the first header
 abbrev pub fault_beside : HeaderFields → ℕ → Option HeaderFields → Option TipsetFault
-fault_beside first i None = Some (NotHeader i)
+fault_beside first i None = Some (TipsetFault.NotHeader i)
 fault_beside first i (Some header) =
-    if not (header.height == first.height) then Some (HeightDiffers i)
-    else if not (same_cids header.parents first.parents) then Some (ParentsDiffer i)
+    if not (header.height == first.height) then Some (TipsetFault.HeightDiffers i)
+    else if not (same_cids header.parents first.parents) then Some (TipsetFault.ParentsDiffer i)
     else None
 
 -- the header at place i
@@ -61,7 +60,7 @@ unless None r = r
 
 -- the height of blocks of which this is the first header, if it is one
 abbrev pub height_beside : List (List ℕ × List ℕ) → Option HeaderFields → Result ℕ TipsetFault
-height_beside blocks None = Err (NotHeader 0)
+height_beside blocks None = Err (TipsetFault.NotHeader 0)
 height_beside blocks (Some first) = unless (first_of (λ i. fault_beside first i (header_at blocks i)) (length blocks)) (Ok first.height)
 
 -- the height of blocks whose CIDs have no fault, or the first fault

@@ -1,7 +1,7 @@
 //! Reading the items of a header from left to right.
 ghost use Rattle.std.specs.Prelude.{◌≡◌};
-ghost use Rattle.ss_chain.specs.HeaderReading.{count_from, number_from, link_from, item_from, leads_with_links, has_only_links};
-ghost use Rattle.ss_chain.specs.Reads.{Reads, Passes};
+ghost use Rattle.ss_chain.specs.HeaderReading.{count_from, number_from, link_from, item_from, after_items, leads_with_links, has_only_links};
+ghost use Rattle.ss_cbor.specs.Position.{Reads, Passes};
 
 use ss_cbor::{Cursor, Item};
 use ss_cid::Cid;
@@ -61,7 +61,7 @@ pub fn next_item<'a>(cursor: &mut Cursor<'a>) -> Option<&'a [u8]>
 
 /// Passes so many items.
 pub fn pass_items(cursor: &mut Cursor<'_>, n: u64) -> Option<()>
-    ensures { Passes n cursor.old cursor.new result }
+    ensures { Passes (after_items n) cursor.old cursor.new result }
 {
     for _ in 0..n {
         next_item(cursor)?;

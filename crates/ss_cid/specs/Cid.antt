@@ -2,7 +2,6 @@
 -- varint hash code, varint digest length, digest. That a CID has at most 72 bytes is this project's own.
 use Rattle.std.specs.Prelude.{◌≡◌, ℕ, ◌+◌, ◌<◌, ◌==◌, nat_lt, if◌then◌else◌, List, ◌++◌, length, take, drop, All, Option, Some, None, Result, Ok, Err}
 use Rattle.ss_cid.specs.declared.fault.CidFault.{CidFault}
-use Rattle.ss_cid.specs.declared.fault.CidFault.TheVariants.{Short, NotV1, TooLong}
 use Rattle.ss_cid.specs.declared.head.Head.{Head}
 use Rattle.ss_cid.specs.Steps.{◌>>=◌}
 use Rattle.ss_cid.specs.Varint.{varint, varint_at}
@@ -16,13 +15,13 @@ cid_bytes codec hash digest =
 unfoldable pub version_end : List ℕ → Result ℕ CidFault
 version_end bytes = do
   version ← varint_at bytes 0
-  if version.0 == 1 then Ok version.1 else Err (NotV1 version.0)
+  if version.0 == 1 then Ok version.1 else Err (CidFault.NotV1 version.0)
 
 -- the place behind a digest of so many bytes that begins at a place, within 72 bytes and within the input
 unfoldable pub digest_end : List ℕ → ℕ → ℕ → Result ℕ CidFault
 digest_end bytes len at =
-    if nat_lt 72 (at + len) then Err (TooLong len)
-    else if nat_lt (length bytes) (at + len) then Err (Short (length bytes))
+    if nat_lt 72 (at + len) then Err (CidFault.TooLong len)
+    else if nat_lt (length bytes) (at + len) then Err (CidFault.Short (length bytes))
     else Ok (at + len)
 
 -- the CID that some bytes begin with, by its parts, or the first fault from the left
@@ -76,5 +75,5 @@ cid_at bytes = do
 -- the CID of these parts, or that it would be too long
 unfoldable pub cid_of : ℕ → ℕ → List ℕ → Result (List ℕ) CidFault
 cid_of codec hash digest =
-    if nat_lt 72 (length (cid_bytes codec hash digest)) then Err (TooLong (length digest))
+    if nat_lt 72 (length (cid_bytes codec hash digest)) then Err (CidFault.TooLong (length digest))
     else Ok (cid_bytes codec hash digest)

@@ -1,17 +1,14 @@
 -- The codecs and hash functions that have a name here, by their numbers in the multicodec table.
 use Rattle.std.specs.Prelude.{ℕ, ◌==◌, if◌then◌else◌}
-use Rattle.ss_cid.specs.declared.codec.Codec.{Codec}
-use Rattle.ss_cid.specs.declared.codec.Codec.TheVariants as codec
-use Rattle.ss_cid.specs.declared.codec.HashCode.{HashCode}
-use Rattle.ss_cid.specs.declared.codec.HashCode.TheVariants as hash
+use Rattle.ss_cid.specs.declared.codec.{Codec.Codec, HashCode.HashCode}
 
 abbrev pub codec_named : ℕ → Codec
 codec_named n =
-    if n == 0x55 then codec.Raw else if n == 0x70 then codec.DagPb
-    else if n == 0x71 then codec.DagCbor else if n == 0xf101 then codec.Unsealed
-    else if n == 0xf102 then codec.Sealed else codec.Other n
+    if n == 0x55 then Codec.Raw else if n == 0x70 then Codec.DagPb
+    else if n == 0x71 then Codec.DagCbor else if n == 0xf101 then Codec.Unsealed
+    else if n == 0xf102 then Codec.Sealed else Codec.Other n
 
 abbrev pub hash_named : ℕ → HashCode
 hash_named n =
-    if n == 0x00 then hash.Identity else if n == 0x12 then hash.Sha2x256
-    else if n == 0xb220 then hash.Blake2b256 else hash.Other n
+    if n == 0x00 then HashCode.Identity else if n == 0x12 then HashCode.Sha2x256
+    else if n == 0xb220 then HashCode.Blake2b256 else HashCode.Other n

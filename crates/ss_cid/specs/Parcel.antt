@@ -3,8 +3,7 @@ use Rattle.std.specs.Prelude.{ℕ, ◌<◌, ◌≤◌, ◌^◌, Bool, ◌&&◌, 
 use Rattle.std.specs.List.{slice_range}
 use Rattle.std.specs.Cmp.Lexicographic.{pointwise}
 use Rattle.ss_cid.specs.Cid.{IsCid}
-use Rattle.ss_cid.specs.declared.parcel.Entry.{Entry}
-use Rattle.ss_cid.specs.declared.parcel.Parcel.TheInside.{Inside}
+use Rattle.ss_cid.specs.declared.parcel.{Entry.Entry, Parcel.TheInside.Inside}
 
 -- a block's CID and its bytes
 abbrev pub pair_of : List ℕ → Entry → List ℕ × List ℕ

@@ -4,7 +4,6 @@ use Rattle.std.specs.Prelude.{ℕ, ◌+◌, ◌%◌, ◌^◌, ◌==◌, nat_lt, 
 use Rattle.std.specs.List.{position_or_len}
 use Rattle.std.specs.Int.Digits.{number_from_digits}
 use Rattle.ss_cid.specs.declared.fault.CidFault.{CidFault}
-use Rattle.ss_cid.specs.declared.fault.CidFault.TheVariants.{BadText}
 use Rattle.ss_cid.specs.Steps.{◌>>=◌}
 use Rattle.ss_cid.specs.Base32.{letter, is_letter, letter_value, letter_values, spelled_bytes, unused_bits}
 use Rattle.ss_cid.specs.Cid.{cid_at}
@@ -26,17 +25,17 @@ unfoldable pub letters_bytes : List ℕ → Result (List ℕ) CidFault
 letters_bytes letters =
     let count = length letters in
     let values = map letter_value letters in
-    if nat_lt (good_letters letters) count then Err (BadText (good_letters letters + 1))
-    else if is_cut count then Err (BadText (count + 1))
-    else if not (number_from_digits 32 values % 2 ^ unused_bits count == 0) then Err (BadText count)
+    if nat_lt (good_letters letters) count then Err (CidFault.BadText (good_letters letters + 1))
+    else if is_cut count then Err (CidFault.BadText (count + 1))
+    else if not (number_from_digits 32 values % 2 ^ unused_bits count == 0) then Err (CidFault.BadText count)
     else Ok (spelled_bytes values)
 
 -- the bytes that a text spells, or the first fault
 unfoldable pub text_bytes : List ℕ → Result (List ℕ) CidFault
-text_bytes [] = Err (BadText 0)
+text_bytes [] = Err (CidFault.BadText 0)
 text_bytes (first ∷ letters) =
-    if not (first == 98) then Err (BadText 0)
-    else if nat_lt 117 (length letters + 1) then Err (BadText 117)
+    if not (first == 98) then Err (CidFault.BadText 0)
+    else if nat_lt 117 (length letters + 1) then Err (CidFault.BadText 117)
     else letters_bytes letters
 
 -- the CID that a text spells, or the first fault
@@ -44,4 +43,4 @@ unfoldable pub cid_from_text : List ℕ → Result (List ℕ) CidFault
 cid_from_text text = do
   bytes ← text_bytes text
   found ← cid_at bytes
-  if found.1 == length bytes then Ok found.0 else Err (BadText (length text))
+  if found.1 == length bytes then Ok found.0 else Err (CidFault.BadText (length text))

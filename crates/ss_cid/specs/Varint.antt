@@ -4,7 +4,6 @@
 use Rattle.std.specs.Prelude.{ℕ, zero, suc, ◌+◌, ◌*◌, ◌/◌, ◌%◌, ◌==◌, nat_lt, if◌then◌else◌, ◌&&◌, List, [], ◌∷◌, length, take, drop, slice_index, Result, Ok, Err}
 use Rattle.std.specs.List.{position_or_len}
 use Rattle.ss_cid.specs.declared.fault.CidFault.{CidFault}
-use Rattle.ss_cid.specs.declared.fault.CidFault.TheVariants.{Short, LongVarint}
 
 -- the bytes of a number that has at most so many groups behind the first
 unfoldable pub groups_of : ℕ → ℕ → List ℕ
@@ -29,7 +28,7 @@ unfoldable pub varint_at : List ℕ → ℕ → Result (ℕ × ℕ) CidFault
 varint_at bytes at = varint_to bytes at (drop at bytes) (high_count (drop at bytes)) where
   varint_to : List ℕ → ℕ → List ℕ → ℕ → Result (ℕ × ℕ) CidFault
   varint_to bytes at rest high =
-      if high == 9 then Err (LongVarint at)
-      else if high == length rest then Err (Short (length bytes))
-      else if nat_lt 0 high && (slice_index rest high == 0) then Err (LongVarint at)
+      if high == 9 then Err (CidFault.LongVarint at)
+      else if high == length rest then Err (CidFault.Short (length bytes))
+      else if nat_lt 0 high && (slice_index rest high == 0) then Err (CidFault.LongVarint at)
       else Ok (groups_value (take (high + 1) rest), at + high + 1)

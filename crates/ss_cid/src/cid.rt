@@ -38,6 +38,17 @@ impl Model for Cid {
     ghost inverse = { λ bytes. record { room = bytes } };
 }
 
+/// What a CID says, read from its bytes once.
+#[derive(Clone, Copy, Debug)]
+pub struct Parts<'a> {
+    /// How the block's bytes are read.
+    pub codec: Codec,
+    /// Which hash function made the digest.
+    pub hash_code: HashCode,
+    /// The digest.
+    pub digest: &'a [u8],
+}
+
 impl Cid {
     /// Reads the CID that `bytes` begin with, and tells how many bytes it takes. Others may follow.
     ///
@@ -151,6 +162,22 @@ impl Cid {
             Some(&self.room.as_slice()[head.digest_at..])
         } else {
             None
+        }
+    }
+
+    /// The codec, the hash code and the digest. Each of the calls above reads the CID's bytes again;
+    /// this one reads them once.
+    #[tactic(auto, unfolding(crate::specs::Cid::codec_of, crate::specs::Cid::hash_of, crate::specs::Cid::digest_of))]
+    pub fn parts(&self) -> Parts<'_>
+        ensures codec { result.codec ≡ codec_named (codec_of self.now) }
+        ensures hash_code { result.hash_code ≡ hash_named (hash_of self.now) }
+        ensures digest { result.digest.now ≡ digest_of self.now }
+    {
+        let head = self.head();
+        Parts {
+            codec: Codec::from(head.codec),
+            hash_code: HashCode::from(head.hash),
+            digest: &self.room.as_slice()[head.digest_at..],
         }
     }
 

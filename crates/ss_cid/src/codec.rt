@@ -1,5 +1,5 @@
 //! The codecs and hash functions that have a name here, by their numbers in the multicodec table.
-ghost use Rattle.std.specs.Prelude.{◌≡◌, ℕ};
+ghost use Rattle.std.specs.Prelude.{◌≡◌};
 ghost use Rattle.ss_cid.specs.Codec.{codec_named, hash_named};
 
 /// Bytes as they are.

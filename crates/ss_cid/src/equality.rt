@@ -1,5 +1,5 @@
 //! Two rows of bytes, lists of CIDs or parcels are equal where contracts see them as one list.
-ghost use Rattle.std.specs.Prelude.{◌&&◌, nat_eq};
+ghost use Rattle.std.specs.Prelude.{nat_eq};
 ghost use Rattle.std.specs.Cmp.{partial_equiv_from_equiv};
 ghost use Rattle.std.specs.Cmp.Lexicographic.{pointwise, nat_list_eq_equiv};
 ghost use Rattle.std.proofs.lemmas.Cmp.{lists_equiv, on_equiv, and_equiv};

@@ -37,7 +37,7 @@ mod text;
 mod varint;
 
 pub use bytes::Bytes;
-pub use cid::Cid;
+pub use cid::{Cid, Parts};
 pub use cids::Cids;
 pub use codec::{
     CODEC_DAG_CBOR, CODEC_DAG_PB, CODEC_RAW, CODEC_SEALED, CODEC_UNSEALED, Codec, HASH_BLAKE2B_256,

@@ -1,5 +1,4 @@
 //! The answer of a call that ran out of memory.
-ghost use Rattle.std.specs.Prelude.{◌≡◌};
 
 use std::alloc::{AllocError, AllocFailed};
 use std::error::Error;

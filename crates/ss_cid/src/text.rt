@@ -1,5 +1,5 @@
 //! The text of a CID: `b`, and then base32.
-ghost use Rattle.std.specs.Prelude.{◌≡◌, ℕ, ◌+◌, ◌-◌, ◌*◌, ◌/◌, ◌%◌, ◌^◌, ◌<◌, ◌≤◌, true, false, [], ◌∷◌, ◌++◌, length, drop, slice_index, MatchOption};
+ghost use Rattle.std.specs.Prelude.{◌≡◌, ◌+◌, ◌-◌, ◌*◌, ◌/◌, ◌%◌, ◌^◌, ◌<◌, ◌≤◌, true, false, [], ◌∷◌, ◌++◌, length, drop, slice_index, MatchOption};
 ghost use Rattle.ss_cid.specs.Base32.{letter, is_letter, letter_value};
 ghost use Rattle.ss_cid.specs.Text.{cid_text, letters_bytes, text_bytes};
 

@@ -1,5 +1,5 @@
 //! Unsigned varints: numbers below 2^63 in groups of seven bits, the least significant first.
-ghost use Rattle.std.specs.Prelude.{◌≡◌, ℕ, ◌+◌, ◌<◌, ◌≤◌, ◌^◌, ◌++◌, length, drop, IfOk};
+ghost use Rattle.std.specs.Prelude.{◌≡◌, ◌+◌, ◌<◌, ◌≤◌, ◌^◌, ◌++◌, length, drop, IfOk};
 ghost use Rattle.ss_cid.specs.Varint.{varint, varint_at};
 
 use crate::fault::CidFault;

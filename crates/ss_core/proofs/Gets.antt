@@ -1,8 +1,8 @@
 -- What a get finds.
-use Rattle.std.proofs.Common.{◌≡◌, ◌⊎◌, inl, ⊎_elim, ℕ, ◌≤◌, Bool, true, false, cond, List, length, Option, Some, None, refl, sym, ap, subst, ◌∙◌, true≢false, arith}
-use Rattle.std.specs.Prelude.{◌==◌, is_some, if◌then◌else◌, Result, Ok, Err, IfOk, MatchResult}
+use Rattle.std.proofs.Common.{◌≡◌, ℕ, ◌≤◌, Bool, true, false, cond, List, length, ◌++◌, take, drop, Option, Some, None, refl, sym, ap, subst, ◌∙◌, true≢false, arith}
+use Rattle.std.specs.Prelude.{◌==◌, is_some, if◌then◌else◌, option_map, Result, Ok, Err, IfOk, MatchResult}
 use Rattle.std.specs.FinMap as finite_map
-use Rattle.std.proofs.lemmas.List.{length-drop}
+use Rattle.std.proofs.lemmas.List.{length-drop, take_at}
 use Rattle.ss_cid.specs.Cid.{cid_head, part_of, hash_of, digest_of, identity_of}
 use Rattle.ss_model.specs.State.{State, Kept}
 use Rattle.ss_chain.specs.Fetch.{fetched}
@@ -12,14 +12,16 @@ use Rattle.ss_model.proofs.Kept.{fetched_is as fetched_by}
 use Rattle.ss_disk.specs.declared.disk.Disk.{Ghosts}
 use Rattle.ss_disk.specs.Calls.{Leaves}
 use Rattle.ss_records.specs.declared.record.Record.{Record}
+use Rattle.ss_store.specs.declared.place.Place.{Place}
 use Rattle.ss_hot.specs.Store.{Hot, SameButDoubt}
 use Rattle.ss_model.specs.declared.call.Call.TheVariants as call
 use Rattle.ss_model.specs.declared.call.Answer.TheVariants as answer
 use Rattle.ss_core.specs.declared.split_core.SplitCore.{SplitCore}
 use Rattle.ss_core.specs.Calls.{Steps}
-use Rattle.ss_core.specs.Effect.{Effect, Doubts, no_effect, get_effect, effect_of, bytes_of}
+use Rattle.ss_core.specs.Effect.{no_effect, get_effect, effect_of}
+use Rattle.ss_core.specs.Gets.{len_of, HasLen}
 use Rattle.ss_core.specs.StandsFor.{StandsFor, HasEitherState}
-use Rattle.ss_core.proofs.Idle.{IsIdle, idle, unwritten, leaves_wider, doubts_none, doubts_same, stands_still}
+use Rattle.ss_core.proofs.Idle.{IsIdle, idle, unwritten, doubts_none, doubts_same, stands_still}
 use Rattle.ss_model.specs.declared.call.GetReply.{GetReply}
 use Rattle.ss_model.specs.declared.call.GetReply.TheVariants as get
 
@@ -57,6 +59,10 @@ idle_get : (id : Option (List ℕ)) (r : GetReply) → IsIdle (get_effect r) →
 idle_get None r is = is
 idle_get (Some d) r is = record { writes = refl; doubts = refl; needs = refl; settles = refl }
 
+-- a buffer of which the whole was written
+pub refilled : (items out bytes : List ℕ) (n : ℕ) → length out ≡ n → bytes ≡ take n (out ++ drop (length out) items) → bytes ≡ out
+refilled items out bytes n whole is = is ∙ take_at out _ n whole
+
 module _ {D : Type 0} (disk : Ghosts D) (s : State) (doubt : Option Record) (v : ℕ) (c : List ℕ) where
   module _ (old new : SplitCore D disk) (same : new.disk ≡ old.disk) (same_hot : new.hot ≡ old.hot) (viewed : new.views ≡ old.views) (stands : StandsFor old s doubt) where
     after : StandsFor new s doubt
@@ -67,6 +73,9 @@ module _ {D : Type 0} (disk : Ghosts D) (s : State) (doubt : Option Record) (v :
 
     pub not_found : is_open s v ≡ true → fetched s.kept c ≡ None → Steps old new s doubt (call.Get v c) (answer.Get get.NotFound)
     not_found opened none = idle disk old new s doubt (call.Get v c) (answer.Get get.NotFound) same same_hot (idle_get (identity_of c) get.NotFound (record { writes = refl; doubts = refl; needs = refl; settles = refl })) stands (opened, none) after
+
+    pub no_memory : is_open s v ≡ true → is_some (fetched s.kept c) ≡ true → Steps old new s doubt (call.Get v c) (answer.Get get.NoMemory)
+    no_memory opened there = idle disk old new s doubt (call.Get v c) (answer.Get get.NoMemory) same same_hot (idle_get (identity_of c) get.NoMemory (record { writes = refl; doubts = refl; needs = refl; settles = refl })) stands (opened, there) after
 
     pub own_digest : (digest : List ℕ) (r : GetReply) → Some digest ≡ identity_of c → LawfulGet s v c r → Steps old new s doubt (call.Get v c) (answer.Get r)
     own_digest digest r id lawful =
@@ -94,36 +103,18 @@ module _ {D : Type 0} (disk : Ghosts D) (s : State) (doubt : Option Record) (v :
     is_not_read there settled =
         unwritten disk old new s doubt None (call.Get v c) (answer.Get get.DiskFault) (get_effect get.DiskFault) (looked get.DiskFault) refl (omega arith) (doubts_none (get_effect get.DiskFault) doubt refl) (ap (λ (h : Hot). h.log.end) same) leaves (opened, is_there there, sym none) settled
 
-    pub is_wanting : is_some (finite_map.get s.kept c) ≡ true → StandsFor new s None → Steps old new s doubt (call.Get v c) (answer.Get get.NoMemory)
-    is_wanting there settled =
-        unwritten disk old new s doubt None (call.Get v c) (answer.Get get.NoMemory) (get_effect get.NoMemory) (looked get.NoMemory) refl (omega arith) (doubts_none (get_effect get.NoMemory) doubt refl) (ap (λ (h : Hot). h.log.end) same) leaves (opened, is_there there) settled
+-- ---- how many bytes are found, over any disk
 
--- a block that was found, and of which no second copy was made
-pub found_wanting : {D : Type 0} (disk : Ghosts D) (old new : SplitCore D disk) (s : State) (doubt : Option Record) (v : ℕ) (c block : List ℕ) → Steps old new s doubt (call.Get v c) (answer.Get (get.Found block)) → Steps old new s doubt (call.Get v c) (answer.Get get.NoMemory)
-found_wanting disk old new s doubt v c block step = on (identity_of c) refl
-  where
-    lawful : LawfulGet s v c get.NoMemory
-    lawful = (step.lawful.0, ap is_some step.lawful.1)
+-- an identity CID's block has the length of its digest
+pub own_len : (hot : Hot) (c digest : List ℕ) → Some digest ≡ identity_of c → Some (length digest) ≡ len_of hot c
+own_len hot c digest id = ap (λ i. or_else (option_map length i) (option_map (λ (p : Place). p.len) (finite_map.get hot.places c))) id
 
-    by : (effect other : Effect) → effect_of s (call.Get v c) (answer.Get (get.Found block)) ≡ effect → effect_of s (call.Get v c) (answer.Get get.NoMemory) ≡ other → effect.writes ≡ None → effect.doubts ≡ None → other.writes ≡ None → other.needs ≡ 0 → Doubts other doubt step.now
-        → Steps old new s doubt (call.Get v c) (answer.Get get.NoMemory)
-    by effect other was is writes doubts none needs doubted =
-        unwritten disk old new s doubt step.now (call.Get v c) (answer.Get get.NoMemory) other is none (omega (arith, needs)) doubted
-        (omega (arith, step.end, ap (λ (e : Effect). bytes_of e.writes) was, ap bytes_of writes))
-        (leaves_wider disk old.hot.log.file (λ file. HasEitherState s doubt file ⊎ HasEitherState s (effect_of s (call.Get v c) (answer.Get (get.Found block))).doubts file) (HasEitherState s doubt) old.disk new.disk
-        (λ bytes has. ⊎_elim (λ own. own) (λ other. ⊎_elim (λ here. inl here) (λ here. inl here) (subst (λ (r : Option Record). HasEitherState s r bytes) (ap (λ (e : Effect). e.doubts) was ∙ doubts) other)) has) step.stops)
-        lawful step.after
+-- another's that of its place
+pub place_len : (hot : Hot) (c : List ℕ) → None ≡ identity_of c → option_map (λ (p : Place). p.len) (finite_map.get hot.places c) ≡ len_of hot c
+place_len hot c none = ap (λ i. or_else (option_map length i) (option_map (λ (p : Place). p.len) (finite_map.get hot.places c))) none
 
-    on : (id : Option (List ℕ)) → identity_of c ≡ id → Steps old new s doubt (call.Get v c) (answer.Get get.NoMemory)
-    on (Some d) id =
-        let was : effect_of s (call.Get v c) (answer.Get (get.Found block)) ≡ no_effect = ap (λ i. if is_some i then no_effect else get_effect (get.Found block)) id in
-        by no_effect no_effect was (ap (λ i. if is_some i then no_effect else get_effect get.NoMemory) id) refl refl refl refl (subst (λ (e : Effect). Doubts e doubt step.now) was step.doubts)
-    on None id =
-        let was : effect_of s (call.Get v c) (answer.Get (get.Found block)) ≡ get_effect (get.Found block) = ap (λ i. if is_some i then no_effect else get_effect (get.Found block)) id in
-        by (get_effect (get.Found block)) (get_effect get.NoMemory) was (ap (λ i. if is_some i then no_effect else get_effect get.NoMemory) id) refl refl refl refl
-        (record { settled = λ no. absurd (true≢false (sym no)); still = λ no. absurd (true≢false no); one_of = inl ((subst (λ (e : Effect). Doubts e doubt step.now) was step.doubts).settled refl) })
-
--- what is not read is there
-pub held_by_error : {X T E : Type 0} {e : E} {ok : T} (found : Option X) → (found ≡ None → ◌≡◌ {A = Result T E} (Err e) (Ok ok)) → is_some found ≡ true
-held_by_error None absent = absurd (let differ : ⊥ = cc (absent refl) in differ)
-held_by_error (Some x) absent = refl
+-- so has a copy of the digest
+pub digest_len : {E : Type 0} (hot : Hot) (c digest : List ℕ) (copy : Result (List ℕ) E) (r : GetReply) → Some digest ≡ identity_of c → IfOk copy (λ b. b ≡ digest) → MatchResult copy (λ b. r ≡ get.Found b) (λ _. r ≡ get.NoMemory) → HasLen (len_of hot c) r
+digest_len hot c digest (Ok b) r id copied is =
+    subst (HasLen (len_of hot c)) (sym is) (sym (own_len hot c digest id) ∙ ap (λ (d : List ℕ). Some (length d)) (sym copied))
+digest_len hot c digest (Err e) r id copied is = subst (HasLen (len_of hot c)) (sym is) tt

@@ -69,19 +69,6 @@ module _ {D : Type 0} (disk : Ghosts D) (old new : SplitCore D disk) (settings :
       touches = touches;
     }
 
-    pub get_wanting : disk.faults new.disk ≡ disk.faults old.disk → (old.hot.log.unsure ≡ false → Goes disk Same old.disk new.disk) → Makes old new (call.Get v c) (answer.Get get.NoMemory)
-    get_wanting kept same = record {
-      fault = λ wrong. never wrong;
-      no_fault = inr kept;
-      full = tt;
-      memory = λ _ sure. same sure;
-      still = λ not. never (sym (ap (λ (e : Effect). e.reaches) (looked get.NoMemory) ∙ not (empty_state old.hot.settings)));
-      settled = λ s wrong. never (ap (λ (e : Effect). e.settles) (looked get.NoMemory) ∙ wrong);
-      settings = settings;
-      file = file;
-      touches = touches;
-    }
-
 -- a disk that was not called
 pub same_disk : {D : Type 0} (disk : Ghosts D) (old new : D) → new ≡ old → Goes disk Same old new
 same_disk disk old new same = subst (λ now. Goes disk Same old now) (sym same) (stays disk old Same (λ files. refl))
@@ -110,32 +97,10 @@ digest_makes {E = E} disk core v c digest r copy id is = on copy is
       fault = λ wrong. never wrong;
       no_fault = inr refl;
       full = tt;
-      memory = λ _ _. same_disk disk core.disk core.disk refl;
+      memory = λ _ _. refl;
       still = λ _. refl;
       settled = λ s wrong. never (sym (ap (λ (e : Effect). e.settles) (quiet get.NoMemory (identity_of c) id)) ∙ wrong);
       settings = refl;
       file = refl;
       touches = touches_none disk core.hot.log.file core.disk;
     })
-
--- a block that was found, and of which no second copy was made
-pub found_wanting : {D : Type 0} (disk : Ghosts D) (old new : SplitCore D disk) (v : ℕ) (c block : List ℕ) → (old.hot.log.unsure ≡ false → Goes disk Same old.disk new.disk) → Makes old new (call.Get v c) (answer.Get (get.Found block)) → Makes old new (call.Get v c) (answer.Get get.NoMemory)
-found_wanting disk old new v c block reads made = record {
-  fault = λ wrong. never wrong;
-  no_fault = made.no_fault;
-  full = tt;
-  memory = λ _ sure. reads sure;
-  still = λ not. made.still (λ s. by (identity_of c) (not s));
-  settled = λ s wrong. by' (identity_of c) wrong;
-  settings = made.settings;
-  file = made.file;
-  touches = made.touches;
-}
-  where
-    by : (id : Option (List ℕ)) → (if is_some id then no_effect else get_effect get.NoMemory).reaches ≡ false → (if is_some id then no_effect else get_effect (get.Found block)).reaches ≡ false
-    by (Some d) is = refl
-    by None is = never (sym is)
-
-    by' : (id : Option (List ℕ)) → (if is_some id then no_effect else get_effect get.NoMemory).settles ≡ true → new.hot.log.unsure ≡ false
-    by' (Some d) wrong = never wrong
-    by' None wrong = never wrong

@@ -17,7 +17,7 @@ use Rattle.ss_store.specs.Index.{CidMap}
 use Rattle.ss_store.specs.declared.place.Place.{Place}
 use Rattle.ss_model.specs.State.{CidSet}
 use Rattle.ss_model.specs.Lawful.{is_left_out, new_pairs}
-use Rattle.ss_core.specs.Fresh.{AreNoted, ArePairsAt, cids_of}
+use Rattle.ss_core.specs.Puts.{AreNoted, ArePairsAt, cids_of}
 use Rattle.ss_core.proofs.Puts.{picked, fresh_few, cids_known}
 
 -- where as many are new as there are, all are

@@ -14,6 +14,7 @@ use Rattle.ss_store.specs.declared.place.Place.{Place}
 use Rattle.ss_hot.specs.Store.{Hot, AreNotHot}
 use Rattle.ss_model.specs.State.{Kept}
 use Rattle.ss_model.specs.Lawful.{pair_bytes, put_bytes, written_bytes, body_bytes, length_of}
+use Rattle.ss_core.specs.Puts.{held_bytes, held_put_bytes}
 
 -- a sum over the pairs before a place, one pair further
 sum_next : (f : List ℕ × List ℕ → ℕ) (pairs : List (List ℕ × List ℕ)) (i : ℕ) (p : List ℕ × List ℕ) → slice_get pairs i ≡ Some p → sum_by f (take (i + 1) pairs) ≡ sum_by f (take i pairs) + f p
@@ -22,6 +23,10 @@ sum_next f pairs i p at = sum_by_more f pairs i p (slice_get_within pairs i p at
 -- the bytes of a put
 pub bytes_more : (kept : Kept) (pairs : List (List ℕ × List ℕ)) (i : ℕ) (p : List ℕ × List ℕ) (bytes one more top : ℕ) → slice_get pairs i ≡ Some p → bytes ≡ min (put_bytes kept (take i pairs)) top → one ≡ pair_bytes kept p → more ≡ min (bytes + one) top → more ≡ min (put_bytes kept (take (i + 1) pairs)) top
 bytes_more kept pairs i p bytes one more top at before here is = omega (arith, sum_next (pair_bytes kept) pairs i p at, here, before, is)
+
+-- by the places of the blocks that are kept
+pub held_more : (places : CidMap Place) (pairs : List (List ℕ × List ℕ)) (i : ℕ) (p : List ℕ × List ℕ) (bytes one more top : ℕ) → slice_get pairs i ≡ Some p → bytes ≡ min (held_put_bytes places (take i pairs)) top → one ≡ held_bytes places p → more ≡ min (bytes + one) top → more ≡ min (held_put_bytes places (take (i + 1) pairs)) top
+held_more places pairs i p bytes one more top at before here is = omega (arith, sum_next (held_bytes places) pairs i p at, here, before, is)
 
 -- the bytes of a put are at least those of a record of its pairs
 pub least_more : (pairs : List (List ℕ × List ℕ)) (i : ℕ) (p : List ℕ × List ℕ) (bytes one more top : ℕ) → slice_get pairs i ≡ Some p → min (body_bytes (take i pairs)) top ≤ bytes → written_bytes p ≤ one → more ≡ min (bytes + one) top → min (body_bytes (take (i + 1) pairs)) top ≤ more

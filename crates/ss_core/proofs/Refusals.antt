@@ -11,6 +11,7 @@ use Rattle.ss_model.specs.declared.call.Answer.TheVariants as answer
 use Rattle.ss_core.specs.declared.split_core.SplitCore.{SplitCore}
 use Rattle.ss_core.specs.Calls.{Steps}
 use Rattle.ss_core.specs.Effect.{no_effect}
+use Rattle.ss_core.specs.Puts.{IsDueTo}
 use Rattle.ss_core.specs.StandsFor.{StandsFor}
 use Rattle.ss_core.proofs.Idle.{IsIdle, idle}
 
@@ -47,3 +48,18 @@ refused_by_fault s v pairs (put.TooLarge i) fits h = (fits, h)
 refused_by_fault s v pairs (put.UnknownHash i) fits h = (fits, h)
 refused_by_fault s v pairs (put.Mismatch i) fits h = (fits, h)
 refused_by_fault s v pairs (put.Malformed i kind at) fits h = (fits, h)
+
+-- over any disk
+pub due_by_fault : {D : Type 0} (disk : Ghosts D) (core : SplitCore D disk) (v : ℕ) (pairs : List (List ℕ × List ℕ)) (r : PutReply) → IsFirstFault pairs r → IsDueTo core core v pairs r
+due_by_fault disk core v pairs put.NoMemory h = absurd h.fault
+due_by_fault disk core v pairs (put.Stored new) h = absurd h.fault
+due_by_fault disk core v pairs (put.TableFull rows) h = absurd h.fault
+due_by_fault disk core v pairs (put.LogFull file need room) h = absurd h.fault
+due_by_fault disk core v pairs put.DiskFault h = absurd h.fault
+due_by_fault disk core v pairs put.BadView h = absurd h.fault
+due_by_fault disk core v pairs (put.TooMany n) h = absurd h.fault
+due_by_fault disk core v pairs (put.TooBig n) h = absurd h.fault
+due_by_fault disk core v pairs (put.TooLarge i) h = (refl, h)
+due_by_fault disk core v pairs (put.UnknownHash i) h = (refl, h)
+due_by_fault disk core v pairs (put.Mismatch i) h = (refl, h)
+due_by_fault disk core v pairs (put.Malformed i kind at) h = (refl, h)

@@ -1,4 +1,4 @@
--- How a fault that stops a put or a get is answered.
+-- How a fault that stops a put or a head is answered.
 use Rattle.std.proofs.Common.{◌≡◌, ◌⊎◌, inl, inr, ℕ, List, Option, refl, sym, subst}
 use Rattle.ss_disk.specs.declared.disk.Disk.{Ghosts}
 use Rattle.ss_records.specs.declared.record.Record.{Record}
@@ -9,13 +9,11 @@ use Rattle.ss_model.specs.declared.call.Call.TheVariants as call
 use Rattle.ss_model.specs.declared.call.Answer.TheVariants as answer
 use Rattle.ss_model.specs.declared.call.PutReply.{PutReply}
 use Rattle.ss_model.specs.declared.call.PutReply.TheVariants as put
-use Rattle.ss_model.specs.declared.call.GetReply.{GetReply}
-use Rattle.ss_model.specs.declared.call.GetReply.TheVariants as get
 use Rattle.ss_model.specs.declared.call.HeadReply.{HeadReply}
 use Rattle.ss_model.specs.declared.call.HeadReply.TheVariants as head
 use Rattle.ss_core.specs.declared.split_core.SplitCore.{SplitCore}
 use Rattle.ss_core.specs.Calls.{Steps, Makes}
-use Rattle.ss_core.specs.Fault.{IsStop, put_fault, get_fault, head_fault}
+use Rattle.ss_core.specs.Fault.{IsStop, put_fault, head_fault}
 
 -- a fault is one where the log is not full and the file not damaged
 pub is_stop : (f : StoreFault) → ((file need room : ℕ) → f ≡ fault.LogFull file need room → ⊥) → ((file at : ℕ) → f ≡ fault.Damaged file at → ⊥) → IsStop f
@@ -33,12 +31,6 @@ module _ {D : Type 0} {disk : Ghosts D} {old new : SplitCore D disk} where
     put_steps (fault.LogFull file need room) is stop memory failed = absurd stop
     put_steps (fault.Damaged file at) is stop memory failed = absurd stop
 
-    pub get_steps : {v : ℕ} {c : List ℕ} {r : GetReply} (f : StoreFault) → r ≡ get_fault f → IsStop f → (f ≡ fault.NoMemory → Steps old new s doubt (call.Get v c) (answer.Get get.NoMemory)) → (f ≡ fault.DiskFault → Steps old new s doubt (call.Get v c) (answer.Get get.DiskFault)) → Steps old new s doubt (call.Get v c) (answer.Get r)
-    get_steps {v = v} {c = c} fault.NoMemory is stop memory failed = subst (λ (r : GetReply). Steps old new s doubt (call.Get v c) (answer.Get r)) (sym is) (memory refl)
-    get_steps {v = v} {c = c} fault.DiskFault is stop memory failed = subst (λ (r : GetReply). Steps old new s doubt (call.Get v c) (answer.Get r)) (sym is) (failed refl)
-    get_steps (fault.LogFull file need room) is stop memory failed = absurd stop
-    get_steps (fault.Damaged file at) is stop memory failed = absurd stop
-
     pub head_steps : {cids : List (List ℕ)} {r : HeadReply} (f : StoreFault) → r ≡ head_fault f → IsStop f → (f ≡ fault.NoMemory → Steps old new s doubt (call.SetHead cids) (answer.Head head.NoMemory)) → (f ≡ fault.DiskFault → Steps old new s doubt (call.SetHead cids) (answer.Head head.DiskFault)) → Steps old new s doubt (call.SetHead cids) (answer.Head r)
     head_steps {cids = cids} fault.NoMemory is stop memory failed = subst (λ (r : HeadReply). Steps old new s doubt (call.SetHead cids) (answer.Head r)) (sym is) (memory refl)
     head_steps {cids = cids} fault.DiskFault is stop memory failed = subst (λ (r : HeadReply). Steps old new s doubt (call.SetHead cids) (answer.Head r)) (sym is) (failed refl)
@@ -51,35 +43,13 @@ module _ {D : Type 0} {disk : Ghosts D} {old new : SplitCore D disk} where
   put_makes (fault.LogFull file need room) is stop memory failed = absurd stop
   put_makes (fault.Damaged file at) is stop memory failed = absurd stop
 
-  pub get_makes : {v : ℕ} {c : List ℕ} {r : GetReply} (f : StoreFault) → r ≡ get_fault f → IsStop f → (f ≡ fault.NoMemory → Makes old new (call.Get v c) (answer.Get get.NoMemory)) → (f ≡ fault.DiskFault → Makes old new (call.Get v c) (answer.Get get.DiskFault)) → Makes old new (call.Get v c) (answer.Get r)
-  get_makes {v = v} {c = c} fault.NoMemory is stop memory failed = subst (λ (r : GetReply). Makes old new (call.Get v c) (answer.Get r)) (sym is) (memory refl)
-  get_makes {v = v} {c = c} fault.DiskFault is stop memory failed = subst (λ (r : GetReply). Makes old new (call.Get v c) (answer.Get r)) (sym is) (failed refl)
-  get_makes (fault.LogFull file need room) is stop memory failed = absurd stop
-  get_makes (fault.Damaged file at) is stop memory failed = absurd stop
-
   pub head_makes : {cids : List (List ℕ)} {r : HeadReply} (f : StoreFault) → r ≡ head_fault f → IsStop f → (f ≡ fault.NoMemory → Makes old new (call.SetHead cids) (answer.Head head.NoMemory)) → (f ≡ fault.DiskFault → Makes old new (call.SetHead cids) (answer.Head head.DiskFault)) → Makes old new (call.SetHead cids) (answer.Head r)
   head_makes {cids = cids} fault.NoMemory is stop memory failed = subst (λ (r : HeadReply). Makes old new (call.SetHead cids) (answer.Head r)) (sym is) (memory refl)
   head_makes {cids = cids} fault.DiskFault is stop memory failed = subst (λ (r : HeadReply). Makes old new (call.SetHead cids) (answer.Head r)) (sym is) (failed refl)
   head_makes (fault.LogFull file need room) is stop memory failed = absurd stop
   head_makes (fault.Damaged file at) is stop memory failed = absurd stop
 
--- one of the two is a stop
-pub either_stop : (f : StoreFault) → (f ≡ fault.NoMemory) ⊎ (f ≡ fault.DiskFault) → IsStop f
-either_stop fault.NoMemory which = tt
-either_stop fault.DiskFault which = tt
-either_stop (fault.LogFull file need room) (inl is) = absurd (let differ : ⊥ = cc (is) in differ)
-either_stop (fault.LogFull file need room) (inr is) = absurd (let differ : ⊥ = cc (is) in differ)
-either_stop (fault.Damaged file at) (inl is) = absurd (let differ : ⊥ = cc (is) in differ)
-either_stop (fault.Damaged file at) (inr is) = absurd (let differ : ⊥ = cc (is) in differ)
-
 -- what a fault other than the disk's leaves
 pub unless_disk : (f : StoreFault) (P : Type 0) → f ≡ fault.NoMemory → (f ≡ fault.DiskFault) ⊎ P → P
 unless_disk f P wanting (inl failed) = absurd (let differ : ⊥ = cc (wanting, failed) in differ)
 unless_disk f P wanting (inr same) = same
-
--- a get finds no memory where its store did
-pub get_wanted : (f : StoreFault) → get_fault f ≡ get.NoMemory → f ≡ fault.NoMemory
-get_wanted fault.NoMemory is = refl
-get_wanted fault.DiskFault is = absurd (let differ : ⊥ = cc (is) in differ)
-get_wanted (fault.LogFull file need room) is = absurd (let differ : ⊥ = cc (is) in differ)
-get_wanted (fault.Damaged file at) is = absurd (let differ : ⊥ = cc (is) in differ)

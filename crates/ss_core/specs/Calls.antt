@@ -34,9 +34,8 @@ OfFullLog P (answer.Put (put.LogFull file need room)) = P file need room
 OfFullLog P (answer.Head (head.LogFull file need room)) = P file need room
 OfFullLog P _ = Unit {0}
 
--- what no memory leaves: a put called the disk for nothing, and a get and a head for reads alone
+-- what no memory leaves: a head called the disk for reads alone, and another call for nothing
 abbrev pub IsUnwritten : {D : Type 0} → Ghosts D → Answer → D → D → Type 0
-IsUnwritten disk (answer.Get r) old new = Goes disk Same old new
 IsUnwritten disk (answer.Head r) old new = Goes disk Same old new
 IsUnwritten disk _ old new = new ≡ old
 

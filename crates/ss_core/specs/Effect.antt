@@ -62,7 +62,6 @@ put_effect fresh _ = no_effect
 abbrev pub get_effect : GetReply → Effect
 get_effect (get.Found block) = writes_record None
 get_effect get.DiskFault = asks
-get_effect get.NoMemory = asks
 get_effect _ = no_effect
 
 -- the record of the head that these CIDs are: none where they are no tipset

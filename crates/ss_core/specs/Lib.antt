@@ -1,8 +1,7 @@
-pub mod Blocks
 pub mod Calls
 pub mod Effect
 pub mod Fault
-pub mod Fresh
+pub mod Gets
 pub mod Heads
 pub mod Puts
 pub mod StandsFor

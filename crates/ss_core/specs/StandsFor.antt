@@ -4,16 +4,14 @@ use Rattle.std.specs.FinMap as finite_map
 use Rattle.std.specs.FinSet as finite_set
 use Rattle.ss_disk.specs.declared.disk.Disk.{Ghosts}
 use Rattle.ss_gatelog.specs.Log.{spelled}
-use Rattle.ss_records.specs.declared.record.Config.{Config as Settings}
-use Rattle.ss_records.specs.declared.record.Record.{Record}
-use Rattle.ss_records.specs.declared.record.Record.TheVariants.{Put, Head}
+use Rattle.ss_records.specs.declared.record.{Config.Config as Settings, Record.Record}
 use Rattle.ss_store.specs.Append.{bodies}
 use Rattle.ss_hot.specs.Half.{AreInPlace, settings_of, hot_blocks, head_of, base_of}
 use Rattle.ss_hot.specs.File.{IsHalf}
 use Rattle.ss_hot.specs.Store.{Keeps}
 use Rattle.ss_model.specs.State.{State, closed}
 use Rattle.ss_model.specs.Lawful.{after_put}
-use Rattle.ss_model.specs.declared.call.PutReply.TheVariants as put
+use Rattle.ss_model.specs.declared.call.PutReply.{PutReply}
 use Rattle.ss_core.specs.declared.split_core.SplitCore.{SplitCore}
 
 -- The records of a store with these settings leave this state, but for its views. All blocks that are kept are hot, and the
@@ -57,8 +55,8 @@ with_doubt records (Some r) = records ++ r ∷ []
 -- the state that a record in doubt would make
 abbrev pub state_with : State → Option Record → State
 state_with s None = s
-state_with s (Some (Put pairs)) = after_put s pairs (put.Stored 0)
-state_with s (Some (Head height cids)) = record s { head = Some (height, cids) }
+state_with s (Some (Record.Put pairs)) = after_put s pairs (PutReply.Stored 0)
+state_with s (Some (Record.Head height cids)) = record s { head = Some (height, cids) }
 state_with s (Some _) = s
 
 -- A store stands for this state, where this record is in doubt: each image now has its records, or where one is in doubt, those

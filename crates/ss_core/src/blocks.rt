@@ -1,13 +1,15 @@
 //! Which blocks may be stored, and how many bytes a record of them has.
 
-ghost use Rattle.std.specs.Prelude.{◌≡◌, ◌^◌, ◌<◌, OnOk, IfErr, IsOk, MatchOption};
+ghost use Rattle.std.specs.Prelude.{◌≡◌, ◌^◌, ◌<◌, ℕ, List, OnOk, IfErr, IsOk, MatchOption};
+ghost use Rattle.ss_cid.specs.Cid.{codec_of};
+ghost use Rattle.ss_cid.specs.Codec.{codec_named};
 ghost use Rattle.ss_model.specs.Lawful.{IsSound, AreSound, IsDagCbor, IsFirstFault, body_bytes};
 ghost use Rattle.ss_cbor.specs.Fault.{scanned};
-ghost use Rattle.ss_core.specs.Blocks.{IsFaultOf, IsMalformed, refusal_of};
+ghost use Rattle.ss_core.specs.Puts.{IsFaultOf, IsMalformed, refusal_of};
 
 use ss_cbor::{CborKind, scan};
 use ss_cid::{Cid, Codec, Parcel};
-use ss_hash::{HashFault, check};
+use ss_hash::{HashFault, check_for_codec};
 use ss_model::{BLOCK_BYTES, PutReply};
 
 /// Why a block is not stored.
@@ -45,8 +47,8 @@ pub fn check_block(cid: &Cid, block: &[u8]) -> Result<(), BlockFault>
     if cid.as_bytes().len() + block.len() > BLOCK_BYTES {
         return Err(BlockFault::TooLarge);
     }
-    match check(cid, block) {
-        Ok(()) => check_item(cid, block),
+    match check_for_codec(cid, block) {
+        Ok(codec) => check_item(codec, block),
         Err(HashFault::UnknownHash { .. }) => Err(BlockFault::UnknownHash),
         Err(HashFault::Mismatch { .. }) => Err(BlockFault::Mismatch),
         Err(HashFault::NotIdentity { .. }) => Err(BlockFault::Mismatch),
@@ -54,11 +56,11 @@ pub fn check_block(cid: &Cid, block: &[u8]) -> Result<(), BlockFault>
 }
 
 // Whether a valid block is one item, where its codec asks for that.
-fn check_item(cid: &Cid, block: &[u8]) -> Result<(), BlockFault>
-    ensures sound { OnOk result (IsDagCbor cid.now → IsOk (scanned block.now)) }
-    ensures fault { IfErr result (IsMalformed (cid.now, block.now)) }
+fn check_item(codec: Codec, block: &[u8]) -> Result<(), BlockFault>
+    ensures sound { (cid : List ℕ) → codec ≡ codec_named (codec_of cid) → OnOk result (IsDagCbor cid → IsOk (scanned block.now)) }
+    ensures fault { (cid : List ℕ) → codec ≡ codec_named (codec_of cid) → IfErr result (IsMalformed (cid, block.now)) }
 {
-    if cid.codec() != Codec::DagCbor {
+    if codec != Codec::DagCbor {
         return Ok(());
     }
     match scan(block) {

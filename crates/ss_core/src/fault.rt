@@ -1,9 +1,9 @@
 //! How the fault of a store is answered.
 
 ghost use Rattle.std.specs.Prelude.{◌≡◌};
-ghost use Rattle.ss_core.specs.Fault.{IsStop, put_fault, get_fault, head_fault};
+ghost use Rattle.ss_core.specs.Fault.{IsStop, put_fault, head_fault};
 
-use ss_model::{GetReply, HeadReply, PutReply};
+use ss_model::{HeadReply, PutReply};
 use ss_store::StoreFault;
 
 /// The answer to a put.
@@ -14,18 +14,6 @@ pub(crate) fn put_fault(fault: StoreFault) -> PutReply
     match fault {
         StoreFault::NoMemory => PutReply::NoMemory,
         StoreFault::DiskFault => PutReply::DiskFault,
-        StoreFault::LogFull { .. } | StoreFault::Damaged { .. } => unreachable!(),
-    }
-}
-
-/// The answer to a get.
-pub(crate) fn get_fault(fault: StoreFault) -> GetReply
-    requires { IsStop fault }
-    ensures { result ≡ get_fault fault }
-{
-    match fault {
-        StoreFault::NoMemory => GetReply::NoMemory,
-        StoreFault::DiskFault => GetReply::DiskFault,
         StoreFault::LogFull { .. } | StoreFault::Damaged { .. } => unreachable!(),
     }
 }

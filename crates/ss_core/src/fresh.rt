@@ -5,7 +5,7 @@ ghost use Rattle.ss_store.specs.Index.{CidMap};
 ghost use Rattle.ss_store.specs.declared.place.Place.{Place};
 ghost use Rattle.ss_model.specs.Lawful.{new_pairs};
 ghost use Rattle.ss_model.specs.declared.TheConstants.{PUT_BLOCKS};
-ghost use Rattle.ss_core.specs.Fresh.{AreNoted, ArePairsAt, IsFresh, cids_of};
+ghost use Rattle.ss_core.specs.Puts.{AreNoted, ArePairsAt, IsFresh, cids_of};
 
 use ss_cid::{NoMemory, Parcel};
 use ss_model::PUT_BLOCKS;

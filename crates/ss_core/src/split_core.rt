@@ -57,6 +57,7 @@ impl<D: Disk> SplitCore<D> {
     ghost use Rattle.ss_core.specs.Calls.{Steps, Makes};
     ghost use Rattle.ss_core.specs.Puts.{Settles};
     ghost use Rattle.ss_core.specs.StandsFor.{IsLeftBy, StandsFor};
+    ghost use Rattle.ss_core.specs.Views.{OpensView};
 
     /// The store of these parts, in which no view is open. The disk is not called.
     ///
@@ -65,7 +66,7 @@ impl<D: Disk> SplitCore<D> {
         requires sure { hot.log.unsure ≡ false }
         requires log { (hot.log.file ≡ 0) × (hot.log.limit ≡ hot.settings.limit) }
         requires known { hot.log.end + 1 ≤ D.known disk hot.log.file }
-        ensures parts { IfOk result (λ core. (core.disk ≡ disk) × (core.hot ≡ hot)) }
+        ensures parts { IfOk result (λ core. (core.disk ≡ disk) × (core.hot ≡ hot) × (core.views ≡ finite_set.empty)) }
         ensures stands { (records : List Record) (s : State) → IsTrue D.told → Keeps D.Disk disk hot records records → IsLeftBy hot.settings records s → s.views ≡ finite_set.empty → IfOk result (λ core. StandsFor core s None) }
         ensures few { OnOk result (finite_map.len hot.places ≤ hot.settings.rows) }
         ensures many { IfErr result (λ (fault, back). (fault ≡ PartsFault.TooMany (finite_map.len hot.places)) × (hot.settings.rows < finite_map.len hot.places) × (back ≡ disk)) }
@@ -157,6 +158,7 @@ impl<D: Disk> SplitCore<D> {
     pub fn open_view(&mut self) -> ViewReply
         ensures told { IsTrue D.told → (s : State) (doubt : Option Record) → StandsFor self.old s doubt → Steps self.old self.new s doubt call_kind.OpenView (answer.View result) }
         ensures made { Makes self.old self.new call_kind.OpenView (answer.View result) }
+        ensures views { OpensView self.old.views self.new.views result }
     {
         match self.views.open() {
             Some(view) => ViewReply::Opened(view),

@@ -1,8 +1,5 @@
--- The disk of this project, which follows no standard: files under one clock, what a read of them gives, and what a
--- crash may leave. Between two syncs of a file, each range that was written since, and the part past the old end, may
--- hold any bytes after a crash; the length is between the old one and the one that a read gives; all other bytes stay.
--- After a sync that succeeded a crash leaves what a read gives. A write that failed may leave any bytes in its range,
--- and a crash then a length up to the end of that range, although a read gives less.
+-- The disk of this project, which follows no standard: files under one clock, what a read of them gives, and what a crash may
+-- leave. docs/MODEL.md has its rules in words.
 use Rattle.std.specs.Prelude.{◌≡◌, ◌≢◌, ◌+◌, ◌-◌, ◌^◌, ◌<◌, ◌≤◌, ℕ, max, min, List, ◌++◌, length, take, drop, Result, OnOk, OnErr}
 
 -- the content of each file, by the file's number

@@ -3,7 +3,6 @@ use Rattle.std.specs.Prelude.{◌≡◌, ◌⊎◌, ℕ, ◌+◌, List, [], ◌�
 use Rattle.std.specs.declared.alloc.Global.{Global}
 use Rattle.ss_disk.specs.declared.memory.MemoryDisk.{MemoryDisk}
 use Rattle.ss_disk.specs.declared.memory.call.DeviceCall.{DeviceCall}
-use Rattle.ss_disk.specs.declared.memory.call.DeviceCall.TheVariants.{Wrote}
 use Rattle.ss_disk.specs.Disk.{Files, Holds, Changes}
 use Rattle.ss_disk.specs.Memory.{contents, Image}
 
@@ -67,7 +66,7 @@ pub record Puts (file at len : ℕ) (old new : MemoryDisk) : Type 0 where
   pub left : Vec ℕ Global
   pub missing : ℕ
   pub length_is : length left.items + missing ≡ len
-  pub calls : new.calls.items ≡ old.calls.items ++ Wrote file at left missing ∷ []
+  pub calls : new.calls.items ≡ old.calls.items ++ DeviceCall.Wrote file at left missing ∷ []
   pub files : Changes file (Holds at left.items) (files_of old) (files_of new)
 
 -- no call joined it, and no file changed

@@ -6,7 +6,6 @@ use Rattle.std.proofs.Math.Seq.{drop-append-add}
 use Rattle.std.proofs.lemmas.List.{take_at, length-take-le, drop-drop, take_all}
 use Rattle.std.proofs.lemmas.Bool.Decides.{nat_tests}
 use Rattle.ss_disk.specs.declared.memory.call.DeviceCall.{DeviceCall}
-use Rattle.ss_disk.specs.declared.memory.call.DeviceCall.TheVariants.{Asked, Wrote, Synced}
 use Rattle.ss_disk.specs.Disk.{Torn, Holds}
 use Rattle.ss_disk.specs.Memory.{contents, story, read_after, MayLeave, Image, fits, Replays}
 
@@ -36,12 +35,12 @@ within a b test = grind (arith, nat_tests)
 
 pub reading_left : (first : List ℕ) (calls : List DeviceCall) → IsTrue (fits first calls) → MayLeave first calls (read_after first calls)
 reading_left first [] fit = refl
-reading_left first (Asked ∷ earlier) fit = reading_left first earlier fit
-reading_left first (Wrote file at left missing ∷ earlier) fit =
+reading_left first (DeviceCall.Asked ∷ earlier) fit = reading_left first earlier fit
+reading_left first (DeviceCall.Wrote file at left missing ∷ earlier) fit =
     let parts = both_tests _ _ fit in
     let was = read_after first earlier in
     (was, reading_left first earlier parts.1, torn_from_holds at (length left.items + missing) left.items was _ (within at (length was) parts.0) (omega arith) refl)
-reading_left first (Synced file ∷ earlier) fit = refl
+reading_left first (DeviceCall.Synced file ∷ earlier) fit = refl
 
 pub reading_is_image : (first now : List (Vec ℕ Global)) (known : List ℕ) (calls : List DeviceCall) → Replays first now known calls → Image first (take (length calls) calls) (contents now)
 reading_is_image first now known calls replays file =

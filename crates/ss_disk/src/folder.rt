@@ -1,4 +1,4 @@
-ghost use Rattle.std.specs.Prelude.{◌≡◌, ◌+◌, ◌^◌, ◌<◌, ◌≤◌, ◌↔◌, [], false, length, slice_index, slice_set, IsSome, IsErr, IfOk, OnOk};
+ghost use Rattle.std.specs.Prelude.{◌≡◌, ◌+◌, ◌<◌, ◌≤◌, ◌↔◌, [], false, slice_index, IsSome, IsErr, IfOk, OnOk};
 ghost use Rattle.ss_disk.specs.Disk.{Rose, HasCause};
 
 mod failure;

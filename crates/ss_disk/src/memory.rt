@@ -1,5 +1,5 @@
-ghost use Rattle.std.specs.Prelude.{◌≡◌, ◌+◌, ◌^◌, ◌<◌, ◌≤◌, ◌↔◌, ◌++◌, [], ◌∷◌, ℕ, true, length, take, IsTrue, IsOk, IsErr, slice_index, slice_range, Contains, vec_len, MatchResult, IfOk, OnOk, OnErr};
-ghost use Rattle.ss_disk.specs.Disk.{Files, Holds, Torn, Same, Changes, Evolves, Raises, Rose, HasCause};
+ghost use Rattle.std.specs.Prelude.{◌≡◌, ◌+◌, ◌^◌, ◌<◌, ◌≤◌, ◌↔◌, ◌++◌, [], ◌∷◌, ℕ, true, length, IsTrue, IsErr, slice_index, slice_range, Contains, MatchResult, IfOk, OnOk, OnErr};
+ghost use Rattle.ss_disk.specs.Disk.{Files, Holds, Torn, Same, Changes, Evolves, Raises, HasCause};
 ghost use Rattle.ss_disk.specs.Memory.{contents, Replays};
 ghost use Rattle.ss_disk.specs.MemoryLaws.{reading_is_image};
 

@@ -6,20 +6,12 @@ use Rattle.std.specs.Int.{w32, from_be_bytes}
 use Rattle.std.proofs.lemmas.List.{drop_at, drop_more, drop-drop, length-take-le}
 use Rattle.ss_gatelog.specs.Log.{open_gate, longest_body, length_bytes, spelled, HasRecords, HasList, Fits, IsDamaged}
 use Rattle.ss_gatelog.specs.Gate.{LeadTo}
-use Rattle.ss_gatelog.specs.Skim.{Walked}
 use Rattle.ss_gatelog.proofs.Bytes.{length_bytes-injective, from_length_bytes}
 use Rattle.ss_gatelog.proofs.Steps.{spelled-push, length-spelled-push, bodies_push}
 
 -- before the first record
 pub starts : (limit : ℕ) (file : List ℕ) → 0 < limit → LeadTo limit file [] 0
 starts limit file some = record { rest = file; is = refl; place = refl; bodies = tt; within = some }
-
--- a walk that came to a place, with the records that it passed and without
-pub passed : (limit : ℕ) (file : List ℕ) (at : ℕ) (walked : Walked limit file at) → LeadTo limit file walked.front at
-passed limit file at walked = record { rest = walked.rest; is = walked.is; place = walked.place; bodies = walked.bodies; within = walked.within }
-
-pub walked : (limit : ℕ) (file : List ℕ) (records : List (List ℕ)) (at : ℕ) → LeadTo limit file records at → Walked limit file at
-walked limit file records at leads = record { front = records; rest = leads.rest; is = leads.is; place = leads.place; bodies = leads.bodies; within = leads.within }
 
 module _ (limit : ℕ) (file : List ℕ) (records : List (List ℕ)) (at : ℕ) (leads : LeadTo limit file records at) (inside : at < length file) where
   abbrev gate : ℕ

@@ -1,7 +1,6 @@
 pub mod Log
 pub mod GateLog
 pub mod Gate
-pub mod Skim
 pub mod Faults
 pub mod Records
 pub use Rattle.ss_disk.specs.Disk

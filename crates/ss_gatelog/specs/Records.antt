@@ -3,7 +3,6 @@ use Rattle.std.specs.Prelude.{◌≡◌, ◌+◌, ◌<◌, ◌≤◌, ℕ, Bool,
 use Rattle.ss_disk.specs.declared.disk.Disk.{Ghosts}
 use Rattle.ss_disk.specs.Disk.{Files}
 use Rattle.ss_gatelog.specs.declared.fault.RecordsFault.{RecordsFault}
-use Rattle.ss_gatelog.specs.declared.fault.RecordsFault.TheVariants.{Damaged}
 use Rattle.ss_gatelog.specs.Log.{longest_body, HasList, IsDamaged}
 use Rattle.ss_gatelog.specs.Gate.{LeadTo, IsPiece}
 
@@ -32,14 +31,14 @@ pub record HasLent {D : Type 0} (disk : Ghosts D) (now : D) (reader : Reader) (r
 abbrev pub Lends : {D : Type 0} → Ghosts D → D → Reader → Reader → List (List ℕ) → Result (Option ℕ) RecordsFault → Type 0
 Lends disk now old new records (Ok (Some at)) = HasLent disk now new (records ++ new.body ∷ [])
 Lends disk now old new records (Ok None) = HasLent disk now new records
-Lends disk now old new records (Err (Damaged at)) = HasLent disk now new records × IsDamaged old.limit (disk.files now old.file) at
+Lends disk now old new records (Err (RecordsFault.Damaged at)) = HasLent disk now new records × IsDamaged old.limit (disk.files now old.file) at
 Lends disk now old new records (Err _) = HasLent disk now new records
 
 -- how far the reader came, over any disk: an answer is about the gate at which it was
 abbrev pub Reaches : Reader → Reader → Result (Option ℕ) RecordsFault → Type 0
 Reaches old new (Ok (Some at)) = (at ≡ old.at) × (new.at ≡ old.at + 5 + length new.body) × (length new.body ≤ longest_body) × (new.at < new.size) × (new.at < new.limit)
 Reaches old new (Ok None) = (new.at ≡ old.at) × (new.ended ≡ true)
-Reaches old new (Err (Damaged at)) = (new.at ≡ old.at) × (at ≡ old.at)
+Reaches old new (Err (RecordsFault.Damaged at)) = (new.at ≡ old.at) × (at ≡ old.at)
 Reaches old new (Err _) = new.at ≡ old.at
 
 -- both read the same file

@@ -1,5 +1,5 @@
 // Writes that are on the disk when they return.
-ghost use Rattle.std.specs.Prelude.{◌≡◌, ◌+◌, ◌^◌, ◌<◌, ◌≤◌, ℕ, length, IsTrue, IfOk, OnOk};
+ghost use Rattle.std.specs.Prelude.{◌≡◌, ◌+◌, ◌^◌, ◌<◌, ◌≤◌, length, IsTrue, IfOk, OnOk};
 ghost use Rattle.ss_disk.specs.Disk.{Files, Holds, Torn, Same, Changes, HasCause};
 ghost use Rattle.ss_disk.specs.Calls.{Goes};
 

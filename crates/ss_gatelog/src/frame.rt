@@ -1,5 +1,5 @@
 // A frame: four bytes for the length, the body, and a byte for the gate behind it.
-ghost use Rattle.std.specs.Prelude.{◌≡◌, ◌+◌, ◌^◌, ◌<◌, ◌≤◌, ◌∷◌, ◌++◌, [], ℕ, length};
+ghost use Rattle.std.specs.Prelude.{◌≡◌, ◌+◌, ◌≤◌, ◌∷◌, ◌++◌, [], length};
 ghost use Rattle.ss_gatelog.specs.Log.{longest_body, length_bytes};
 ghost use Rattle.ss_gatelog.specs.GateLog.{body_of};
 

@@ -1,5 +1,5 @@
-ghost use Rattle.std.specs.Prelude.{◌≡◌, ◌⊎◌, ◌+◌, ◌-◌, ◌^◌, ◌<◌, ◌≤◌, ◌↔◌, ◌∷◌, ◌++◌, [], ℕ, List, Bool, true, false, IsTrue, length, slice_range, Err, Some, None, IsOk, IsErr, IfOk, IfSome, OnOk, OnErr, IsErrOf};
-ghost use Rattle.ss_disk.specs.Disk.{Files, Torn, Same, Changes, Rose, HasCause};
+ghost use Rattle.std.specs.Prelude.{◌≡◌, ◌⊎◌, ◌+◌, ◌-◌, ◌^◌, ◌<◌, ◌≤◌, ◌↔◌, ◌∷◌, ◌++◌, [], ℕ, List, true, false, IsTrue, length, slice_range, Err, Some, None, IsOk, IsErr, IfOk, IfSome, OnOk, OnErr, IsErrOf};
+ghost use Rattle.ss_disk.specs.Disk.{Torn, Same, Changes, Rose, HasCause};
 ghost use Rattle.ss_disk.specs.Calls.{Goes, Touches, Leaves};
 ghost use Rattle.ss_gatelog.specs.Log.{longest_body, spelled, HasList, IsDamaged};
 

@@ -1,4 +1,4 @@
-ghost use Rattle.std.specs.Prelude.{◌≡◌, ◌⊎◌, ◌+◌, ◌^◌, ◌<◌, ◌≤◌, [], ℕ, List, true, false, length, IsTrue, IsOk, IsErr, IfOk, OnOk};
+ghost use Rattle.std.specs.Prelude.{◌≡◌, ◌⊎◌, ◌+◌, ◌^◌, ◌<◌, ◌≤◌, [], ℕ, List, true, false, length, IsTrue, IsOk, IsErr, IfOk};
 ghost use Rattle.ss_disk.specs.Disk.{Same, Changes, HasCause};
 ghost use Rattle.ss_disk.specs.Calls.{Goes};
 ghost use Rattle.ss_gatelog.specs.Faults.{CountsFault};

@@ -3,7 +3,7 @@ ghost use Rattle.std.specs.Prelude.{◌≡◌, ◌⊎◌, ◌+◌, ◌^◌, ◌<
 ghost use Rattle.ss_disk.specs.Disk.{Same, Rose};
 ghost use Rattle.ss_disk.specs.Calls.{Goes};
 ghost use Rattle.ss_gatelog.specs.Log.{spelled, HasRecords, IsDamaged};
-ghost use Rattle.ss_gatelog.specs.Skim.{Walked, Reaches, ReachesWithin};
+ghost use Rattle.ss_gatelog.specs.Gate.{Walked, Reaches, ReachesWithin};
 
 use crate::LogFault;
 use crate::gate::{Gate, judge};

@@ -1,11 +1,18 @@
 -- Laws on digests.
-use Rattle.std.proofs.Common.{◌≡◌, ℕ, ◌+◌, ◌-◌, ◌≤◌, ◌<◌, List, ◌++◌, length, take, replicate, inl, inr, sym, ap, ◌∙◌, arith}
+use Rattle.std.proofs.Common.{◌≡◌, ◌↔◌, Result, Err, ℕ, ◌+◌, ◌-◌, ◌≤◌, ◌<◌, List, ◌++◌, length, take, replicate, inl, inr, sym, ap, ◌∙◌, arith}
 use Rattle.std.specs.List.{flat_map}
 use Rattle.std.proofs.lemmas.List.{length-take-le, take_at, take-take}
 use Rattle.std.proofs.lemmas.Bool.{cases_lt}
 use Rattle.byteorder.specs.Endian.{little_bytes}
 use Rattle.ss_hash.specs.Blake2b.{blake2b, final_hash, compress, folded}
 use Rattle.ss_hash.specs.Digest.{PartAt}
+
+-- what a fault says does not depend on the value that stands beside it
+Err-same : {A E : Type 0} {x y : E} → ◌≡◌ {A = Result A E} (Err x) (Err y) → x ≡ y
+Err-same h = cc
+
+pub carried : {A B E P : Type 0} (x y : E) → (◌≡◌ {A = Result A E} (Err x) (Err y) ↔ P) → ◌≡◌ {A = Result B E} (Err x) (Err y) ↔ P
+carried x y says = (λ same. says.0 (ap Err (Err-same same)), λ p. ap Err (Err-same (says.1 p)))
 
 -- a digest has as many bytes as it was asked for
 pub length-blake2b : (n : ℕ) (m : List ℕ) → n ≤ 64 → length (blake2b n m) ≡ n

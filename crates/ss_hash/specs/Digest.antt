@@ -5,15 +5,14 @@ use Rattle.sha2.specs.Sha256.{sha256}
 use Rattle.ss_cid.specs.Cid.{hash_of, digest_of}
 use Rattle.ss_cid.specs.Codec.{hash_named}
 use Rattle.ss_cid.specs.declared.codec.HashCode.{HashCode}
-use Rattle.ss_cid.specs.declared.codec.HashCode.TheVariants.{Identity, Sha2x256, Blake2b256, Other}
 use Rattle.ss_hash.specs.Blake2b.{blake2b}
 
 -- this hash function makes this digest of the bytes
 abbrev pub IsDigest : HashCode → List ℕ → List ℕ → Type 0
-IsDigest Identity digest bytes = digest ≡ bytes
-IsDigest Sha2x256 digest bytes = (length digest ≡ 32) × (digest ≡ sha256 bytes)
-IsDigest Blake2b256 digest bytes = (length digest ≡ 32) × (digest ≡ blake2b 32 bytes)
-IsDigest (Other code) digest bytes = ⊥
+IsDigest HashCode.Identity digest bytes = digest ≡ bytes
+IsDigest HashCode.Sha2x256 digest bytes = (length digest ≡ 32) × (digest ≡ sha256 bytes)
+IsDigest HashCode.Blake2b256 digest bytes = (length digest ≡ 32) × (digest ≡ blake2b 32 bytes)
+IsDigest (HashCode.Other code) digest bytes = ⊥
 
 -- the bytes are valid for the CID c
 abbrev pub IsValid : List ℕ → List ℕ → Type 0
@@ -21,10 +20,10 @@ IsValid c bytes = IsDigest (hash_named (hash_of c)) (digest_of c) bytes
 
 -- this hash function makes no digest of this length, or is none of the three
 abbrev pub MakesNoSuch : HashCode → List ℕ → Type 0
-MakesNoSuch Identity digest = ⊥
-MakesNoSuch Sha2x256 digest = length digest ≢ 32
-MakesNoSuch Blake2b256 digest = length digest ≢ 32
-MakesNoSuch (Other code) digest = Unit {0}
+MakesNoSuch HashCode.Identity digest = ⊥
+MakesNoSuch HashCode.Sha2x256 digest = length digest ≢ 32
+MakesNoSuch HashCode.Blake2b256 digest = length digest ≢ 32
+MakesNoSuch (HashCode.Other code) digest = Unit {0}
 
 -- the CID c has a hash function, by this number, that is not known for its digest
 abbrev pub IsUnknownHash : List ℕ → ℕ → Type 0
@@ -32,10 +31,10 @@ IsUnknownHash c code = MakesNoSuch (hash_named (hash_of c)) (digest_of c) × (co
 
 -- this hash function makes the digest `got` of the bytes, which is another
 abbrev pub MakesOther : HashCode → List ℕ → List ℕ → List ℕ → Type 0
-MakesOther Identity digest bytes got = ⊥
-MakesOther Sha2x256 digest bytes got = (length digest ≡ 32) × (got ≡ sha256 bytes) × (digest ≢ got)
-MakesOther Blake2b256 digest bytes got = (length digest ≡ 32) × (got ≡ blake2b 32 bytes) × (digest ≢ got)
-MakesOther (Other code) digest bytes got = ⊥
+MakesOther HashCode.Identity digest bytes got = ⊥
+MakesOther HashCode.Sha2x256 digest bytes got = (length digest ≡ 32) × (got ≡ sha256 bytes) × (digest ≢ got)
+MakesOther HashCode.Blake2b256 digest bytes got = (length digest ≡ 32) × (got ≡ blake2b 32 bytes) × (digest ≢ got)
+MakesOther (HashCode.Other code) digest bytes got = ⊥
 
 -- the bytes have the digest `got` where the CID c has another
 abbrev pub IsMismatch : List ℕ → List ℕ → List ℕ → Type 0
@@ -48,4 +47,4 @@ pub record PartAt (xs ys : List ℕ) (at : ℕ) : Type 0 where
 
 -- the digest of the identity CID c and the bytes differ first at this place
 abbrev pub IsNotIdentity : List ℕ → List ℕ → ℕ → Type 0
-IsNotIdentity c bytes at = (hash_named (hash_of c) ≡ Identity) × PartAt (digest_of c) bytes at
+IsNotIdentity c bytes at = (hash_named (hash_of c) ≡ HashCode.Identity) × PartAt (digest_of c) bytes at

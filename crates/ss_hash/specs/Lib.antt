@@ -1,6 +1,5 @@
 pub mod Blake2b
 pub mod State
-pub mod Hasher
 pub mod Digest
 pub mod Fault
 pub use Rattle.sha2.specs.Sha256

@@ -21,8 +21,7 @@ pub struct Blake2b {
 }
 
 impl Blake2b {
-    ghost use Rattle.ss_hash.specs.Hasher.{Holds};
-    ghost use Rattle.ss_hash.specs.State.{IsAbsorbed};
+    ghost use Rattle.ss_hash.specs.State.{Holds, IsAbsorbed};
 
     /// A hasher of the empty message, for a digest of `out_len` bytes, 1 to 64.
     pub fn new(out_len: usize) -> Blake2b

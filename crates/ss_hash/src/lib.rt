@@ -20,7 +20,7 @@ mod state;
 #[cfg(test)]
 mod tests;
 
-pub use block::check;
+pub use block::{check, check_for_codec};
 pub use digest::blake2b;
 pub use fault::HashFault;
 pub use hasher::Blake2b;

@@ -15,7 +15,7 @@ use Rattle.ss_records.proofs.Records.{read_again}
 use Rattle.ss_hot.specs.declared.store.walk.Walk.{Walk}
 use Rattle.ss_hot.specs.Half.{MayStand, settings_from}
 use Rattle.ss_hot.specs.File.{HasSettings, IsFaulty}
-use Rattle.ss_hot.specs.Walk.{IsRead, IsMisfit}
+use Rattle.ss_hot.specs.Opening.{IsRead, IsMisfit}
 use Rattle.ss_hot.proofs.Opened.{same_file, faulty_first, has_settings, two_lent}
 use Rattle.ss_hot.proofs.Settings.{second_tells}
 use Rattle.ss_hot.proofs.Sizes.{length-Generation, length-Config}

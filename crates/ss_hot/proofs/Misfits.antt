@@ -14,7 +14,7 @@ use Rattle.ss_records.proofs.Records.{read_takes}
 use Rattle.ss_gatelog.specs.Log.{longest_body, length_bytes, Fits as FitsGate}
 use Rattle.ss_gatelog.proofs.Bytes.{from_length_bytes}
 use Rattle.ss_hot.specs.Half.{MayStand, IsInPlace}
-use Rattle.ss_hot.specs.Walk.{IsMisfit}
+use Rattle.ss_hot.specs.Opening.{IsMisfit}
 use Rattle.ss_hot.proofs.Readings.{one_result}
 
 -- a record may stand at a place or not

@@ -25,8 +25,7 @@ use Rattle.ss_hot.specs.declared.store.walk.Walk.{Walk}
 use Rattle.ss_hot.specs.Half.{AreInPlace, hot_places}
 use Rattle.ss_hot.specs.File.{HasSettings, IsHalf, IsFaulty}
 use Rattle.ss_hot.specs.Store.{Keeps}
-use Rattle.ss_hot.specs.Walk.{Gathers, IsRead, IsMisfit}
-use Rattle.ss_hot.specs.Opening.{HasRead, OpensSame}
+use Rattle.ss_hot.specs.Opening.{Gathers, IsRead, IsMisfit, HasRead, OpensSame}
 use Rattle.ss_hot.proofs.Grown.{bodies-push}
 use Rattle.ss_hot.proofs.Passed.{gathers_on}
 use Rattle.ss_hot.proofs.Readings.{long_file}

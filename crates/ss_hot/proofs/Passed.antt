@@ -17,7 +17,7 @@ use Rattle.ss_store.proofs.Placing.{LiesBefore}
 use Rattle.ss_store.proofs.Puts.{LiesInBody, put_lies}
 use Rattle.ss_hot.specs.declared.store.walk.Walk.{Walk}
 use Rattle.ss_hot.specs.Half.{IsInPlace, places_after, hot_places, head_from, base_from}
-use Rattle.ss_hot.specs.Walk.{AreBefore, Gathers, IsRead}
+use Rattle.ss_hot.specs.Opening.{AreBefore, Gathers, IsRead}
 use Rattle.ss_hot.proofs.Grown.{head_from-push, base_from-push, places_from-push, AreInPlace-push}
 
 -- ---- each block lies before the next gate

@@ -140,7 +140,6 @@ kept_bytes disk now store records others q reads keeps =
     ap (λ m. option_map (λ (p : Place). slice_range (disk.files now store.log.file) p.at (p.at + p.len)) (finite_map.get m q)) keeps.tells.places
     ∙ places_bytes store.log.file records q (disk.files now store.log.file) file.0 file.1
 
--- a buffer of a block's length that was filled from the block's place
-pub read_block : (p : Place) (file was out items bytes : List ℕ) (n : ℕ) → was ≡ file → length out ≡ n → length out ≡ p.len → bytes ≡ take n (out ++ drop (length out) items) → out ≡ slice_range was p.at (p.at + length out)
-    → bytes ≡ slice_range file p.at (p.at + p.len)
-read_block p file was out items bytes n same whole long is read = is ∙ take_at out _ n whole ∙ read ∙ ap (λ k. slice_range was p.at (p.at + k)) long ∙ ap (λ f. slice_range f p.at (p.at + p.len)) same
+-- what was read at a place of the file
+pub read_block : (p : Place) (file was out : List ℕ) → was ≡ file → length out ≡ p.len → out ≡ slice_range was p.at (p.at + length out) → out ≡ slice_range file p.at (p.at + p.len)
+read_block p file was out same long read = read ∙ ap (λ k. slice_range was p.at (p.at + k)) long ∙ ap (λ f. slice_range f p.at (p.at + p.len)) same

@@ -13,7 +13,7 @@ use Rattle.ss_records.proofs.Records.{read_takes, read_again}
 use Rattle.ss_hot.specs.declared.store.walk.Walk.{Walk}
 use Rattle.ss_hot.specs.Half.{MayStand}
 use Rattle.ss_store.specs.Places.{has_fault, with_places}
-use Rattle.ss_hot.specs.Walk.{Enters, IsRead, IsMisfit}
+use Rattle.ss_hot.specs.Opening.{Enters, IsRead, IsMisfit}
 use Rattle.ss_hot.proofs.Readings.{one_result}
 use Rattle.ss_store.proofs.Puts.{is_put, read_of, none_of, put_lies, with_placed}
 

@@ -1,8 +1,6 @@
 -- What the file of a half stands for: a store with its records, or no store, or the place of its first damage.
 use Rattle.std.specs.Prelude.{◌≡◌, ◌⊎◌, ℕ, ◌<◌, List, [], ◌∷◌, ◌++◌, length, Ok}
-use Rattle.ss_records.specs.declared.record.Config.{Config as Settings}
-use Rattle.ss_records.specs.declared.record.Record.{Record}
-use Rattle.ss_records.specs.declared.record.Record.TheVariants.{Config}
+use Rattle.ss_records.specs.declared.record.{Config.Config as Settings, Record.Record}
 use Rattle.ss_records.specs.Fields.{read_record}
 use Rattle.ss_gatelog.specs.Log.{open_gate, length_bytes, spelled, AreBodies, HasList, Fits as FitsGate}
 use Rattle.ss_store.specs.Append.{bodies}
@@ -17,7 +15,7 @@ pub record HasSettings (file : List ℕ) (settings : Settings) : Type 0 where
   pub rest : List ℕ
   pub is : file ≡ spelled (first ∷ second ∷ []) ++ gate ∷ rest
   pub bodies : AreBodies (first ∷ second ∷ [])
-  pub reads : read_record second ≡ Ok (Config settings)
+  pub reads : read_record second ≡ Ok (Record.Config settings)
 
 -- the file is a half that has these records
 pub record IsHalf (file : List ℕ) (settings : Settings) (records : List Record) : Type 0 where

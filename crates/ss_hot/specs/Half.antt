@@ -2,9 +2,7 @@
 -- The hot log is this project's own.
 use Rattle.std.specs.Prelude.{ℕ, zero, suc, ◌+◌, List, [], ◌∷◌, map, length, Option, None, Some}
 use Rattle.std.specs.FinMap as finite_map
-use Rattle.ss_records.specs.declared.record.Config.{Config as Settings}
-use Rattle.ss_records.specs.declared.record.Record.{Record}
-use Rattle.ss_records.specs.declared.record.Record.TheVariants.{Config, Generation, Put, Dropped, Head, Base}
+use Rattle.ss_records.specs.declared.record.{Config.Config as Settings, Record.Record}
 use Rattle.ss_records.specs.Record.{spelling, Fits, IsValue}
 use Rattle.ss_records.specs.Places.{places_of}
 use Rattle.ss_store.specs.declared.place.Place.{Place}
@@ -13,12 +11,12 @@ use Rattle.ss_store.specs.Places.{placed}
 
 -- The record may stand at this place of a half, counted from 0: its generation, then its settings, and then what happened.
 abbrev pub MayStand : ℕ → Record → Type 0
-MayStand zero (Generation n) = Unit {0}
-MayStand (suc zero) (Config c) = Unit {0}
-MayStand (suc (suc n)) (Put blocks) = Unit {0}
-MayStand (suc (suc n)) (Dropped cids) = Unit {0}
-MayStand (suc (suc n)) (Head height cids) = Unit {0}
-MayStand (suc (suc n)) (Base base ended) = Unit {0}
+MayStand zero (Record.Generation n) = Unit {0}
+MayStand (suc zero) (Record.Config c) = Unit {0}
+MayStand (suc (suc n)) (Record.Put blocks) = Unit {0}
+MayStand (suc (suc n)) (Record.Dropped cids) = Unit {0}
+MayStand (suc (suc n)) (Record.Head height cids) = Unit {0}
+MayStand (suc (suc n)) (Record.Base base ended) = Unit {0}
 MayStand n _ = ⊥
 
 -- a record that may be read at this place
@@ -34,8 +32,8 @@ AreInPlace n (r ∷ rs) = IsInPlace n r × AreInPlace (suc n) rs
 
 -- the hot blocks behind a record
 abbrev pub hot_after : CidMap (List ℕ) → Record → CidMap (List ℕ)
-hot_after hot (Put blocks) = with_pairs hot blocks
-hot_after hot (Dropped cids) = without_cids hot cids
+hot_after hot (Record.Put blocks) = with_pairs hot blocks
+hot_after hot (Record.Dropped cids) = without_cids hot cids
 hot_after hot _ = hot
 
 -- the hot blocks behind records
@@ -49,7 +47,7 @@ hot_blocks records = hot_from finite_map.empty records
 -- the settings that the records tell, if they do
 abbrev pub settings_from : Option Settings → List Record → Option Settings
 settings_from told [] = told
-settings_from told (Config c ∷ rs) = settings_from (Some c) rs
+settings_from told (Record.Config c ∷ rs) = settings_from (Some c) rs
 settings_from told (_ ∷ rs) = settings_from told rs
 
 abbrev pub settings_of : List Record → Option Settings
@@ -58,7 +56,7 @@ settings_of records = settings_from None records
 -- the last head: its height and its CIDs
 abbrev pub head_from : Option (ℕ × List (List ℕ)) → List Record → Option (ℕ × List (List ℕ))
 head_from head [] = head
-head_from head (Head height cids ∷ rs) = head_from (Some (height, cids)) rs
+head_from head (Record.Head height cids ∷ rs) = head_from (Some (height, cids)) rs
 head_from head (_ ∷ rs) = head_from head rs
 
 abbrev pub head_of : List Record → Option (ℕ × List (List ℕ))
@@ -67,7 +65,7 @@ head_of records = head_from None records
 -- the last base, and how many compactions have ended
 abbrev pub base_from : ℕ × ℕ → List Record → ℕ × ℕ
 base_from base [] = base
-base_from base (Base edge ended ∷ rs) = base_from (edge, ended) rs
+base_from base (Record.Base edge ended ∷ rs) = base_from (edge, ended) rs
 base_from base (_ ∷ rs) = base_from base rs
 
 abbrev pub base_of : List Record → ℕ × ℕ
@@ -75,8 +73,8 @@ base_of records = base_from (0, 0) records
 
 -- where the hot blocks lie behind a record whose gate is at an offset of this file
 abbrev pub places_after : ℕ → CidMap Place → ℕ → Record → CidMap Place
-places_after file held at (Put blocks) = with_pairs held (map (placed file (at + 5)) (places_of (Put blocks)))
-places_after file held at (Dropped cids) = without_cids held cids
+places_after file held at (Record.Put blocks) = with_pairs held (map (placed file (at + 5)) (places_of (Record.Put blocks)))
+places_after file held at (Record.Dropped cids) = without_cids held cids
 places_after file held at _ = held
 
 -- where they lie behind records of which the first one's gate is at an offset of the file

@@ -4,7 +4,6 @@ pub mod Store
 pub mod Writes
 pub mod Codes
 pub mod Opening
-pub mod Walk
 pub use Rattle.ss_disk.specs.Calls
 pub use Rattle.ss_gatelog.specs.Log
 pub use Rattle.ss_gatelog.specs.GateLog

@@ -1,12 +1,50 @@
--- How far the opening of a file came.
-use Rattle.std.specs.Prelude.{◌≡◌, ◌+◌, ◌^◌, ◌<◌, ◌≤◌, List, length}
+-- How far the opening of a file came, and what its walk over the records has gathered.
+use Rattle.std.specs.Prelude.{◌≡◌, ◌+◌, ◌^◌, ◌<◌, ◌≤◌, List, length, ℕ, [], ◌∷◌, Some, Ok}
 use Rattle.ss_disk.specs.declared.disk.Disk.{Ghosts}
 use Rattle.ss_gatelog.specs.Log.{longest_body}
 use Rattle.ss_gatelog.specs.Records.{HasLent, ReadsSame}
 use Rattle.ss_records.specs.declared.record.Record.{Record}
 use Rattle.ss_store.specs.Append.{bodies}
 use Rattle.ss_hot.specs.declared.store.opening.Opening.{Opening}
-use Rattle.ss_hot.specs.Walk.{Gathers}
+use Rattle.std.specs.FinMap as finite_map
+use Rattle.ss_records.specs.Record.{spelling}
+use Rattle.ss_records.specs.Fields.{read_record}
+use Rattle.ss_store.specs.declared.place.Place.{Place}
+use Rattle.ss_store.specs.Index.{CidMap}
+use Rattle.ss_hot.specs.declared.store.walk.Walk.{Walk}
+use Rattle.ss_hot.specs.Half.{MayStand, IsInPlace, AreInPlace, settings_from, places_after, hot_places, head_from, head_of, base_from, base_of}
+
+-- each block lies in this file, and ends at this offset or before
+abbrev pub AreBefore : ℕ → CidMap Place → ℕ → Type 0
+AreBefore file places end = (c : List ℕ) (p : Place) → finite_map.get places c ≡ Some p → (p.file ≡ file) × (p.at + p.len ≤ end)
+
+-- the walk has read these records of a file, and holds what they tell
+pub record Gathers (file : ℕ) (walk : Walk) (records : List Record) : Type 0 where
+  pub in_place : AreInPlace 0 records
+  pub count : walk.count ≡ length records
+  pub places : walk.index ≡ hot_places file records
+  pub head : walk.head ≡ head_of records
+  pub base : walk.base ≡ base_of records
+
+-- what the walk holds is as it was, but for what this record changes, whose gate is at `at` in the file
+pub record Enters (file at : ℕ) (old : Walk) (r : Record) (new : Walk) : Type 0 where
+  pub config : new.config ≡ settings_from old.config (r ∷ [])
+  pub places : new.index ≡ places_after file old.index at r
+  pub head : new.head ≡ head_from old.head (r ∷ [])
+  pub base : new.base ≡ base_from old.base (r ∷ [])
+
+-- the walk read a record of this body, and entered it
+pub record IsRead (file at : ℕ) (old : Walk) (body : List ℕ) (new : Walk) : Type 0 where
+  pub is : Record
+  pub spells : body ≡ spelling is
+  pub in_place : IsInPlace old.count is
+  pub enters : Enters file at old is new
+
+-- these bytes spell no record that may stand as the n-th
+abbrev pub IsMisfit : ℕ → List ℕ → Type 0
+IsMisfit n body = (r : Record) → read_record body ≡ Ok r → MayStand n r → ⊥
+
+-- ---- how far the opening came
 
 -- over any disk: the reader is in the opening's file, and may go on
 pub record IsUnderWay {D : Type 0} (disk : Ghosts D) (now : D) (opening : Opening) : Type 0 where

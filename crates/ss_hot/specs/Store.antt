@@ -3,8 +3,7 @@ use Rattle.std.specs.Prelude.{◌≡◌, ℕ, ◌+◌, ◌-◌, ◌<◌, ◌≤�
 use Rattle.std.specs.FinMap as finite_map
 use Rattle.ss_disk.specs.declared.disk.Disk.{Ghosts}
 use Rattle.ss_gatelog.specs.GateLog.{Log, Stands}
-use Rattle.ss_records.specs.declared.record.Config.{Config as Settings}
-use Rattle.ss_records.specs.declared.record.Record.{Record}
+use Rattle.ss_records.specs.declared.record.{Config.Config as Settings, Record.Record}
 use Rattle.ss_store.specs.declared.place.Place.{Place}
 use Rattle.ss_store.specs.Index.{CidMap}
 use Rattle.ss_store.specs.Append.{bodies}
@@ -45,10 +44,14 @@ IsKnown disk now store = store.log.end + 1 ≤ disk.known now store.log.file
 abbrev pub SameButDoubt : Hot → Hot → Type 0
 SameButDoubt old new = new ≡ record old { log = record old.log { unsure = new.log.unsure } }
 
+-- the bytes of a place end before the log does
+abbrev pub LiesIn : Log → Place → Type 0
+LiesIn log p = p.at + p.len ≤ log.end
+
 -- the log has the settings' limit, and each block lies in its file before its end
 pub record IsWithin (settings : Settings) (log : Log) (places : CidMap Place) : Type 0 where
   pub limit : log.limit ≡ settings.limit
-  pub each : (c : List ℕ) (p : Place) → finite_map.get places c ≡ Some p → (p.file ≡ log.file) × (p.at + p.len ≤ log.end)
+  pub each : (c : List ℕ) (p : Place) → finite_map.get places c ≡ Some p → (p.file ≡ log.file) × LiesIn log p
 
 -- none of these blocks is hot
 abbrev pub AreNotHot : Hot → List (List ℕ × List ℕ) → Type 0

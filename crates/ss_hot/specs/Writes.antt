@@ -8,7 +8,6 @@ use Rattle.ss_records.specs.declared.record.Record.{Record}
 use Rattle.ss_records.specs.Record.{spelling}
 use Rattle.ss_store.specs.Append.{bodies}
 use Rattle.ss_store.specs.declared.fault.StoreFault.{StoreFault}
-use Rattle.ss_store.specs.declared.fault.StoreFault.TheVariants.{DiskFault, LogFull, Damaged}
 use Rattle.ss_hot.specs.Store.{Hot, Keeps, IsKnown, SameButDoubt, room_of}
 
 -- Where the disk exposes its files, and the log was sure and the store stood for these records: it stands for one more after
@@ -28,10 +27,10 @@ pub record Writes {D : Type 0} (disk : Ghosts D) (was now : D) (old new : Hot) (
   pub settings : new.settings ≡ old.settings
   pub file : new.log.file ≡ old.log.file
   pub limit : new.log.limit ≡ old.log.limit
-  pub untouched : (e : StoreFault) → result ≡ Err e → (e ≡ DiskFault) ⊎ ((new ≡ old) × (now ≡ was))
-  pub full : (file need room : ℕ) → result ≡ Err (LogFull file need room) → (file ≡ old.log.file) × (need ≡ 5 + length (spelling r)) × (room ≡ room_of old) × (room < need)
-  pub roomy : IsOk result ⊎ (result ≡ Err DiskFault) → 5 + length (spelling r) ≤ room_of old
-  pub not_damaged : (file at : ℕ) → result ≡ Err (Damaged file at) → ⊥
-  pub counts : CountsFault DiskFault (disk.faults was) (disk.faults now) result
+  pub untouched : (e : StoreFault) → result ≡ Err e → (e ≡ StoreFault.DiskFault) ⊎ ((new ≡ old) × (now ≡ was))
+  pub full : (file need room : ℕ) → result ≡ Err (StoreFault.LogFull file need room) → (file ≡ old.log.file) × (need ≡ 5 + length (spelling r)) × (room ≡ room_of old) × (room < need)
+  pub roomy : IsOk result ⊎ (result ≡ Err StoreFault.DiskFault) → 5 + length (spelling r) ≤ room_of old
+  pub not_damaged : (file at : ℕ) → result ≡ Err (StoreFault.Damaged file at) → ⊥
+  pub counts : CountsFault StoreFault.DiskFault (disk.faults was) (disk.faults now) result
   pub known : IsKnown disk now new
   pub touches : Touches disk old.log.file was now

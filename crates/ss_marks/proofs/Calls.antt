@@ -12,8 +12,7 @@ use Rattle.ss_marks.specs.declared.colour.Colour.TheVariants.{White, Grey, Out, 
 use Rattle.ss_marks.specs.declared.row.Row.{Row}
 use Rattle.ss_marks.specs.declared.marks.Marks.TheInside.{Inside}
 use Rattle.ss_marks.specs.Marks.{Mark, MarkTable, IsLive, IsColoured, row_of, colour_of, mark_of, same_colour, coloured, count_in}
-use Rattle.ss_marks.specs.Rows.{row_at, HasCid, with_colour, marks_of}
-use Rattle.ss_marks.specs.Stack.{IsStack}
+use Rattle.ss_marks.specs.Rows.{row_at, HasCid, with_colour, marks_of, IsStack}
 use Rattle.ss_marks.specs.Sound.{IsSound, IsGrey, table_of}
 use Rattle.ss_marks.proofs.Rows.{coloured_within}
 use Rattle.ss_marks.proofs.Colours.{one, itself, count_some, len_removed}

@@ -13,10 +13,8 @@ use Rattle.ss_marks.specs.declared.row.Row.{Row}
 use Rattle.ss_marks.specs.declared.index.Index.{Index}
 use Rattle.ss_marks.specs.declared.marks.Marks.TheInside.{Inside}
 use Rattle.ss_marks.specs.Marks.{CidMap, Mark, MarkTable, same_colour, has_colour, count_in, coloured}
-use Rattle.ss_marks.specs.Rows.{no_row, row_at, HasCid, with_colour, slot_of, marks_of}
+use Rattle.ss_marks.specs.Rows.{no_row, row_at, HasCid, with_colour, slot_of, marks_of, IsVacant, IsStack}
 use Rattle.ss_marks.specs.Index.{IsChained, Indexes, IndexesOthers, slot_at, without_row}
-use Rattle.ss_marks.specs.Stack.{IsStack}
-use Rattle.ss_marks.specs.Vacant.{IsVacant}
 use Rattle.ss_marks.specs.Sound.{IsSound, IsGrey, table_of}
 use Rattle.ss_marks.proofs.Rows.{coloured_within}
 use Rattle.ss_marks.proofs.Colours.{one, count_insert, len_replaced}

@@ -12,10 +12,8 @@ use Rattle.ss_marks.specs.declared.row.Row.{Row}
 use Rattle.ss_marks.specs.declared.stack.Stack.{Stack}
 use Rattle.ss_marks.specs.declared.marks.Marks.TheInside.{Inside}
 use Rattle.ss_marks.specs.Marks.{Mark, count_in}
-use Rattle.ss_marks.specs.Rows.{no_row, row_at, HasCid, slot_of, marks_of}
+use Rattle.ss_marks.specs.Rows.{no_row, row_at, HasCid, slot_of, marks_of, IsVacant, IsStack}
 use Rattle.ss_marks.specs.Index.{IsChained, Indexes, slot_at}
-use Rattle.ss_marks.specs.Stack.{IsStack}
-use Rattle.ss_marks.specs.Vacant.{IsVacant}
 use Rattle.ss_marks.specs.Sound.{IsSound, IsGrey}
 use Rattle.ss_marks.proofs.Rows.{coloured_within}
 use Rattle.ss_marks.proofs.Colours.{count_of_none}

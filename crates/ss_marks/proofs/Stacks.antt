@@ -1,6 +1,6 @@
 -- Stacks that are linked through the rows.
 use Rattle.std.proofs.Common.{◌≡◌, ◌≢◌, ℕ, zero, suc, ◌+◌, ◌-◌, ◌<◌, ◌≤◌, List, length, get_or, refl, sym, ap, subst, ◌∙◌, arith}
-use Rattle.ss_marks.specs.Stack.{IsStack}
+use Rattle.ss_marks.specs.Rows.{IsStack}
 
 -- what holds of its rows may change, and so may other links
 pub same_stack : (P Q : ℕ → Type 0) (links links' : List ℕ) → ((r : ℕ) → P r → Q r) → ((r : ℕ) → P r → get_or links' r 0 ≡ get_or links r 0)

@@ -16,10 +16,8 @@ use Rattle.ss_marks.specs.declared.row.Row.{Row}
 use Rattle.ss_marks.specs.declared.index.Index.{Index}
 use Rattle.ss_marks.specs.declared.marks.Marks.TheInside.{Inside}
 use Rattle.ss_marks.specs.Marks.{CidMap, Mark, MarkTable, same_colour, count_in, whitened}
-use Rattle.ss_marks.specs.Rows.{no_row, row_at, HasCid, whitened_row, whitened_rows, with_entry, entries_from, slot_of, marks_of}
+use Rattle.ss_marks.specs.Rows.{no_row, row_at, HasCid, whitened_row, whitened_rows, with_entry, entries_from, slot_of, marks_of, IsVacant, IsStack}
 use Rattle.ss_marks.specs.Index.{IsChained, Indexes, slot_at}
-use Rattle.ss_marks.specs.Stack.{IsStack}
-use Rattle.ss_marks.specs.Vacant.{IsVacant}
 use Rattle.ss_marks.specs.Sound.{IsSound, IsGrey}
 use Rattle.ss_marks.proofs.Colours.{by_bytes, count_of_none}
 use Rattle.ss_marks.proofs.Marked.{AreDistinct, eq_cid, row_of_mark, mark_of_row, has_cid_of_mark, get_is}

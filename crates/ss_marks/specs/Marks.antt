@@ -4,7 +4,6 @@ use Rattle.std.specs.Prelude.{◌≡◌, ◌≢◌, ℕ, Bool, true, false, List
 use Rattle.std.specs.FinMap as finite_map
 pub use Rattle.ss_cid.specs.Maps.{CidMap}
 use Rattle.ss_marks.specs.declared.colour.Colour.{Colour}
-use Rattle.ss_marks.specs.declared.colour.Colour.TheVariants.{White, Grey, Out, Black}
 
 -- the row of a CID, and its colour
 pub record Mark : Type 0 where
@@ -54,14 +53,14 @@ pub record Recolours (old new : MarkTable) (row : ℕ) (from to : Colour) : Type
 
 -- a mark whose colour is white
 abbrev pub whitened : Mark → Mark
-whitened mark = record mark { colour = White }
+whitened mark = record mark { colour = Colour.White }
 
 -- whether two colours are the same
 abbrev pub same_colour : Colour → Colour → Bool
-same_colour White White = true
-same_colour Grey Grey = true
-same_colour Out Out = true
-same_colour Black Black = true
+same_colour Colour.White Colour.White = true
+same_colour Colour.Grey Colour.Grey = true
+same_colour Colour.Out Colour.Out = true
+same_colour Colour.Black Colour.Black = true
 same_colour _ _ = false
 
 -- whether there is a mark and it has this colour

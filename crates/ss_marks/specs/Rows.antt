@@ -1,9 +1,8 @@
 -- The rows as they lie in memory, and the marks that they are.
-use Rattle.std.specs.Prelude.{◌≡◌, ℕ, ◌+◌, ◌%◌, List, [], ◌∷◌, map, Option, None, Some, IsSome, option_map, slice_index_or, slice_set}
+use Rattle.std.specs.Prelude.{◌≡◌, ℕ, ◌+◌, ◌%◌, List, [], ◌∷◌, map, Option, None, Some, IsSome, option_map, slice_index_or, slice_set, ◌<◌, length, ◌≢◌, zero, suc, slice_index}
 use Rattle.std.specs.FinMap as finite_map
 use Rattle.std.specs.Hash.FoldHasher as folding
 use Rattle.ss_marks.specs.declared.colour.Colour.{Colour}
-use Rattle.ss_marks.specs.declared.colour.Colour.TheVariants.{White}
 use Rattle.ss_marks.specs.declared.row.Row.{Row}
 use Rattle.ss_marks.specs.Marks.{CidMap, Mark}
 
@@ -26,7 +25,7 @@ with_colour rows row colour = slice_set rows row (record (row_at rows row) { col
 
 -- all rows that are not vacant are white
 abbrev pub whitened_row : Row → Row
-whitened_row row = record row { colour = option_map (λ _. White) row.colour }
+whitened_row row = record row { colour = option_map (λ _. Colour.White) row.colour }
 
 abbrev pub whitened_rows : List Row → List Row
 whitened_rows rows = map whitened_row rows
@@ -48,3 +47,15 @@ entries_from n (row ∷ rows) = with_entry row.cid n row.colour (entries_from (n
 -- the marks that rows are
 abbrev pub marks_of : List Row → CidMap Mark
 marks_of rows = finite_map.from_entries (entries_from 0 rows)
+
+-- there is such a row, and it is vacant
+pub record IsVacant (rows : List Row) (row : ℕ) : Type 0 where
+  pub within : row < length rows
+  pub is : (row_at rows row).colour ≡ None
+
+-- ---- stacks that are linked through the rows
+
+-- so many rows from the top one down the links, no two of them the same, and P holds of each
+abbrev pub IsStack : (ℕ → Type 0) → List ℕ → ℕ → ℕ → Type 0
+IsStack P links zero top = Unit {0}
+IsStack P links (suc n) top = P top × IsStack (λ r. P r × (r ≢ top)) links n (slice_index links top)

@@ -1,17 +1,15 @@
 -- What holds of the fields of marks, and what contracts see of them.
 use Rattle.std.specs.Prelude.{◌≡◌, ℕ, ◌+◌, ◌-◌, ◌<◌, ◌≤◌, ◌^◌, List, length, Some, vec_capacity}
 use Rattle.std.specs.FinMap as finite_map
-use Rattle.ss_marks.specs.declared.colour.Colour.TheVariants.{Grey, Out}
+use Rattle.ss_marks.specs.declared.colour.Colour.{Colour}
 use Rattle.ss_marks.specs.declared.row.Row.{Row}
 use Rattle.ss_marks.specs.declared.marks.Marks.TheInside.{Inside}
 use Rattle.ss_marks.specs.Marks.{MarkTable, count_in}
-use Rattle.ss_marks.specs.Rows.{row_at, HasCid, marks_of}
+use Rattle.ss_marks.specs.Rows.{row_at, HasCid, marks_of, IsVacant, IsStack}
 use Rattle.ss_marks.specs.Index.{Indexes}
-use Rattle.ss_marks.specs.Stack.{IsStack}
-use Rattle.ss_marks.specs.Vacant.{IsVacant}
 
 abbrev pub IsGrey : List Row → ℕ → Type 0
-IsGrey rows row = (row_at rows row).colour ≡ Some Grey
+IsGrey rows row = (row_at rows row).colour ≡ Some Colour.Grey
 
 pub record IsSound (m : Inside) : Type 0 where
   pub distinct : (a b : ℕ) (cid : List ℕ) → HasCid m.rows.items a cid → HasCid m.rows.items b cid → a ≡ b
@@ -19,8 +17,8 @@ pub record IsSound (m : Inside) : Type 0 where
   pub vacant : IsStack (IsVacant m.rows.items) m.links.items m.vacant.len m.vacant.top
   pub greys : IsStack (IsGrey m.rows.items) m.links.items m.greys.len m.greys.top
   pub live : m.live ≡ finite_map.len (marks_of m.rows.items)
-  pub grey : m.greys.len ≡ count_in Grey (marks_of m.rows.items)
-  pub out : m.out ≡ count_in Out (marks_of m.rows.items)
+  pub grey : m.greys.len ≡ count_in Colour.Grey (marks_of m.rows.items)
+  pub out : m.out ≡ count_in Colour.Out (marks_of m.rows.items)
   pub used : m.live + m.vacant.len ≡ length m.rows.items
   pub rows : length m.rows.items ≤ length m.index.heads.items
   pub links : length m.index.heads.items ≤ length m.links.items

@@ -1,5 +1,5 @@
 //! Marks.
-ghost use Rattle.std.specs.Prelude.{◌≡◌, ◌≢◌, ℕ, ◌+◌, ◌-◌, ◌<◌, ◌≤◌, ◌^◌, ◌↔◌, List, Option, None, Some, Ok, Err, OnOk, OnErr, MatchOption, option_map, length, vec_capacity};
+ghost use Rattle.std.specs.Prelude.{◌≡◌, ◌≢◌, ℕ, ◌+◌, ◌-◌, ◌<◌, ◌≤◌, ◌^◌, ◌↔◌, List, Option, None, Some, Ok, Err, OnOk, OnErr, MatchOption, option_map};
 ghost use Rattle.std.specs.FinMap as finite_map;
 ghost use Rattle.ss_marks.specs.declared.colour.Colour.TheVariants as colour;
 ghost use Rattle.ss_marks.specs.Marks.{row_of, colour_of, mark_of, IsLive, IsColoured, NoneIs, Recolours, coloured, whitened, count_in};

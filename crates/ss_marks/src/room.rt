@@ -1,9 +1,7 @@
 //! Room for rows.
 ghost use Rattle.std.specs.Prelude.{◌≡◌, ◌≢◌, ℕ, ◌+◌, ◌-◌, ◌<◌, ◌≤◌, ◌^◌, None, OnOk, OnErr, min, length, slice_index, vec_capacity};
-ghost use Rattle.ss_marks.specs.Rows.{row_at};
+ghost use Rattle.ss_marks.specs.Rows.{row_at, IsVacant, IsStack};
 ghost use Rattle.ss_marks.specs.Index.{Indexes};
-ghost use Rattle.ss_marks.specs.Stack.{IsStack};
-ghost use Rattle.ss_marks.specs.Vacant.{IsVacant};
 
 use crate::index::Index;
 use crate::row::Row;

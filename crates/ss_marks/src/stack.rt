@@ -1,6 +1,5 @@
 //! Stacks of rows that are linked through the rows.
-ghost use Rattle.std.specs.Prelude.{◌≡◌, ◌+◌, ◌-◌, ◌<◌, ◌≤◌, ◌^◌, length, slice_index, slice_set, MatchOption, true, false, Bool, ℕ};
-ghost use Rattle.ss_marks.specs.Stack.{IsStack};
+ghost use Rattle.std.specs.Prelude.{◌≡◌, ◌+◌, ◌-◌, ◌<◌, ◌^◌, length, slice_index, slice_set, MatchOption};
 
 /// A stack of rows. The row under each one is its link.
 #[derive(Clone, Copy, Debug)]

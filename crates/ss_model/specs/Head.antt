@@ -7,9 +7,7 @@ use Rattle.ss_chain.specs.First.{first_of}
 use Rattle.ss_chain.specs.Steps.{or_else}
 use Rattle.ss_chain.specs.Tipset.{cids_fault, tipset_of, fault_in}
 use Rattle.ss_chain.specs.declared.tipset_fault.TipsetFault.{TipsetFault}
-use Rattle.ss_chain.specs.declared.tipset_fault.TipsetFault.TheVariants as fault
 use Rattle.ss_model.specs.declared.call.HeadReply.{HeadReply}
-use Rattle.ss_model.specs.declared.call.HeadReply.TheVariants as head
 
 -- the CIDs, each with the bytes that it stands for
 abbrev pub blocks_of : Kept → List (List ℕ) → List (List ℕ × List ℕ)
@@ -17,16 +15,16 @@ blocks_of kept cids = map (λ c. (c, unwrap_or (fetched kept c) [])) cids
 
 -- the answer that a tipset's fault is; a count ends at the last value of its type
 abbrev pub answer_of : TipsetFault → HeadReply
-answer_of fault.Empty = head.Empty
-answer_of (fault.TooMany n) = head.TooMany (min n (2 ^ 32 - 1))
-answer_of (fault.Repeated i) = head.Repeated i
-answer_of (fault.NotHeader i) = head.NotHeader i
-answer_of (fault.HeightDiffers i) = head.HeightDiffers i
-answer_of (fault.ParentsDiffer i) = head.ParentsDiffer i
+answer_of TipsetFault.Empty = HeadReply.Empty
+answer_of (TipsetFault.TooMany n) = HeadReply.TooMany (min n (2 ^ 32 - 1))
+answer_of (TipsetFault.Repeated i) = HeadReply.Repeated i
+answer_of (TipsetFault.NotHeader i) = HeadReply.NotHeader i
+answer_of (TipsetFault.HeightDiffers i) = HeadReply.HeightDiffers i
+answer_of (TipsetFault.ParentsDiffer i) = HeadReply.ParentsDiffer i
 
 -- the CID at place i stands for nothing
 abbrev pub absent_at : Kept → List (List ℕ) → ℕ → Option HeadReply
-absent_at kept cids i = option_and_then (λ c. if is_some (fetched kept c) then None else Some (head.Absent i)) (slice_get cids i)
+absent_at kept cids i = option_and_then (λ c. if is_some (fetched kept c) then None else Some (HeadReply.Absent i)) (slice_get cids i)
 
 -- what is refused before a block is read: a fault of the CIDs alone, or the first that stands for nothing
 abbrev pub unread_refusal : Kept → List (List ℕ) → Option HeadReply

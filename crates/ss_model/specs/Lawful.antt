@@ -15,25 +15,7 @@ use Rattle.ss_hash.specs.Digest.{IsValid, IsUnknownHash}
 use Rattle.ss_model.specs.Head.{unread_refusal, head_refusal, IsHead, head_need}
 use Rattle.ss_model.specs.State.{Kept, CidSet, State}
 use Rattle.ss_model.specs.declared.TheConstants.{VIEWS, PUT_BLOCKS, PUT_BYTES, BLOCK_BYTES}
-use Rattle.ss_model.specs.declared.call.Call.{Call}
-use Rattle.ss_model.specs.declared.call.Call.TheVariants as call
-use Rattle.ss_model.specs.declared.call.Answer.{Answer}
-use Rattle.ss_model.specs.declared.call.Answer.TheVariants as answer
-use Rattle.ss_model.specs.declared.call.ViewReply.{ViewReply}
-use Rattle.ss_model.specs.declared.call.ViewReply.TheVariants as view
-use Rattle.ss_model.specs.declared.call.PutReply.{PutReply}
-use Rattle.ss_model.specs.declared.call.PutReply.TheVariants as put
-use Rattle.ss_model.specs.declared.call.GetReply.{GetReply}
-use Rattle.ss_model.specs.declared.call.GetReply.TheVariants as get
-use Rattle.ss_model.specs.declared.call.CloseReply.{CloseReply}
-use Rattle.ss_model.specs.declared.call.CloseReply.TheVariants as close
-use Rattle.ss_model.specs.declared.call.HasReply.{HasReply}
-use Rattle.ss_model.specs.declared.call.HasReply.TheVariants as has
-use Rattle.ss_model.specs.declared.call.SizeReply.{SizeReply}
-use Rattle.ss_model.specs.declared.call.SizeReply.TheVariants as size
-use Rattle.ss_model.specs.declared.call.HeadReply.{HeadReply}
-use Rattle.ss_model.specs.declared.call.HeadReply.TheVariants as head
-use Rattle.ss_model.specs.declared.call.Info.{Info}
+use Rattle.ss_model.specs.declared.call.{Call.Call, Answer.Answer, ViewReply.ViewReply, PutReply.PutReply, GetReply.GetReply, CloseReply.CloseReply, HasReply.HasReply, SizeReply.SizeReply, HeadReply.HeadReply, Info.Info}
 
 -- the view of this number is open
 abbrev pub is_open : State → ℕ → Bool
@@ -119,10 +101,10 @@ AreSound pairs = (k : ℕ) (q : List ℕ × List ℕ) → k < length pairs → s
 
 -- the pair at this place is refused so
 abbrev pub IsPairFault : ℕ → List ℕ × List ℕ → PutReply → Type 0
-IsPairFault at p (put.TooLarge i) = (i ≡ at) × (BLOCK_BYTES < length p.0 + length p.1)
-IsPairFault at p (put.UnknownHash i) = (i ≡ at) × IsSmall p × ((code : ℕ) × IsUnknownHash p.0 code)
-IsPairFault at p (put.Mismatch i) = (i ≡ at) × IsSmall p × ((code : ℕ) → ¬ IsUnknownHash p.0 code) × ¬ IsValid p.0 p.1
-IsPairFault at p (put.Malformed i kind place) = (i ≡ at) × IsSmall p × IsValid p.0 p.1 × IsDagCbor p.0 × ((fault : CborFault) × (scanned p.1 ≡ Err fault) × (kind ≡ fault.kind) × (place ≡ min fault.at (2 ^ 32 - 1)))
+IsPairFault at p (PutReply.TooLarge i) = (i ≡ at) × (BLOCK_BYTES < length p.0 + length p.1)
+IsPairFault at p (PutReply.UnknownHash i) = (i ≡ at) × IsSmall p × ((code : ℕ) × IsUnknownHash p.0 code)
+IsPairFault at p (PutReply.Mismatch i) = (i ≡ at) × IsSmall p × ((code : ℕ) → ¬ IsUnknownHash p.0 code) × ¬ IsValid p.0 p.1
+IsPairFault at p (PutReply.Malformed i kind place) = (i ≡ at) × IsSmall p × IsValid p.0 p.1 × IsDagCbor p.0 × ((fault : CborFault) × (scanned p.1 ≡ Err fault) × (kind ≡ fault.kind) × (place ≡ min fault.at (2 ^ 32 - 1)))
 IsPairFault at p _ = ⊥
 
 -- the first pair that may not be stored is refused so
@@ -141,9 +123,9 @@ pub record IsFitting (s : State) (v : ℕ) (pairs : List (List ℕ × List ℕ))
 
 -- state and parcel refuse the put so
 abbrev pub IsPutRefusal : State → ℕ → List (List ℕ × List ℕ) → PutReply → Type 0
-IsPutRefusal s v pairs put.BadView = is_open s v ≡ false
-IsPutRefusal s v pairs (put.TooMany n) = (is_open s v ≡ true) × (PUT_BLOCKS < length pairs) × (n ≡ length pairs)
-IsPutRefusal s v pairs (put.TooBig n) = (is_open s v ≡ true) × (length pairs ≤ PUT_BLOCKS) × (PUT_BYTES < put_bytes s.kept pairs) × (n ≡ min (put_bytes s.kept pairs) (2 ^ 64 - 1))
+IsPutRefusal s v pairs PutReply.BadView = is_open s v ≡ false
+IsPutRefusal s v pairs (PutReply.TooMany n) = (is_open s v ≡ true) × (PUT_BLOCKS < length pairs) × (n ≡ length pairs)
+IsPutRefusal s v pairs (PutReply.TooBig n) = (is_open s v ≡ true) × (length pairs ≤ PUT_BLOCKS) × (PUT_BYTES < put_bytes s.kept pairs) × (n ≡ min (put_bytes s.kept pairs) (2 ^ 64 - 1))
 IsPutRefusal s v pairs refusal = IsFitting s v pairs × IsFirstFault pairs refusal
 
 -- state and parcel let the put pass
@@ -158,48 +140,48 @@ pub record IsAdmitted (s : State) (v : ℕ) (pairs : List (List ℕ × List ℕ)
 
 -- the least number below the limit that is no open view's, if there is one
 abbrev pub LawfulView : State → ViewReply → Type 0
-LawfulView s (view.Opened n) = (n < VIEWS) × (is_open s n ≡ false) × ((k : ℕ) → k < n → is_open s k ≡ true)
-LawfulView s view.TooManyViews = (k : ℕ) → k < VIEWS → is_open s k ≡ true
+LawfulView s (ViewReply.Opened n) = (n < VIEWS) × (is_open s n ≡ false) × ((k : ℕ) → k < n → is_open s k ≡ true)
+LawfulView s ViewReply.TooManyViews = (k : ℕ) → k < VIEWS → is_open s k ≡ true
 
 -- so many blocks of the parcel are new
 abbrev pub LawfulAdd : State → List (List ℕ × List ℕ) → ℕ → Type 0
 LawfulAdd s pairs new = map.len s.kept + new ≡ rows_after s pairs
 
 abbrev pub LawfulPut : State → ℕ → List (List ℕ × List ℕ) → PutReply → Type 0
-LawfulPut s v pairs put.NoMemory = IsPassed s v pairs
-LawfulPut s v pairs (put.TableFull rows) = IsPassed s v pairs × (rows ≡ rows_after s pairs) × (s.config.rows < rows)
-LawfulPut s v pairs (put.LogFull file need room) = IsAdmitted s v pairs × (file ≡ 0) × (new_pairs s.hot pairs ≢ []) × (need ≡ pairs_need (new_pairs s.hot pairs)) × (room < need)
-LawfulPut s v pairs put.DiskFault = IsAdmitted s v pairs
-LawfulPut s v pairs (put.Stored new) = IsAdmitted s v pairs × LawfulAdd s pairs new
+LawfulPut s v pairs PutReply.NoMemory = IsPassed s v pairs
+LawfulPut s v pairs (PutReply.TableFull rows) = IsPassed s v pairs × (rows ≡ rows_after s pairs) × (s.config.rows < rows)
+LawfulPut s v pairs (PutReply.LogFull file need room) = IsAdmitted s v pairs × (file ≡ 0) × (new_pairs s.hot pairs ≢ []) × (need ≡ pairs_need (new_pairs s.hot pairs)) × (room < need)
+LawfulPut s v pairs PutReply.DiskFault = IsAdmitted s v pairs
+LawfulPut s v pairs (PutReply.Stored new) = IsAdmitted s v pairs × LawfulAdd s pairs new
 LawfulPut s v pairs refusal = IsPutRefusal s v pairs refusal
 
 abbrev pub LawfulGet : State → ℕ → List ℕ → GetReply → Type 0
-LawfulGet s v c get.BadView = is_open s v ≡ false
-LawfulGet s v c get.NotFound = (is_open s v ≡ true) × (fetched s.kept c ≡ None)
-LawfulGet s v c get.NoMemory = (is_open s v ≡ true) × (is_known s.kept c ≡ true)
-LawfulGet s v c get.DiskFault = (is_open s v ≡ true) × (is_known s.kept c ≡ true) × (identity_of c ≡ None)
-LawfulGet s v c (get.Found block) = (is_open s v ≡ true) × (fetched s.kept c ≡ Some block)
+LawfulGet s v c GetReply.BadView = is_open s v ≡ false
+LawfulGet s v c GetReply.NotFound = (is_open s v ≡ true) × (fetched s.kept c ≡ None)
+LawfulGet s v c GetReply.NoMemory = (is_open s v ≡ true) × (is_known s.kept c ≡ true)
+LawfulGet s v c GetReply.DiskFault = (is_open s v ≡ true) × (is_known s.kept c ≡ true) × (identity_of c ≡ None)
+LawfulGet s v c (GetReply.Found block) = (is_open s v ≡ true) × (fetched s.kept c ≡ Some block)
 
 abbrev pub LawfulClose : State → ℕ → CloseReply → Type 0
-LawfulClose s v close.BadView = is_open s v ≡ false
-LawfulClose s v close.Closed = is_open s v ≡ true
+LawfulClose s v CloseReply.BadView = is_open s v ≡ false
+LawfulClose s v CloseReply.Closed = is_open s v ≡ true
 
 abbrev pub LawfulHas : State → ℕ → List ℕ → HasReply → Type 0
-LawfulHas s v c has.BadView = is_open s v ≡ false
-LawfulHas s v c has.No = (is_open s v ≡ true) × (is_known s.kept c ≡ false)
-LawfulHas s v c has.Yes = (is_open s v ≡ true) × (is_known s.kept c ≡ true)
+LawfulHas s v c HasReply.BadView = is_open s v ≡ false
+LawfulHas s v c HasReply.No = (is_open s v ≡ true) × (is_known s.kept c ≡ false)
+LawfulHas s v c HasReply.Yes = (is_open s v ≡ true) × (is_known s.kept c ≡ true)
 
 abbrev pub LawfulSize : State → ℕ → List ℕ → SizeReply → Type 0
-LawfulSize s v c size.BadView = is_open s v ≡ false
-LawfulSize s v c size.NotFound = (is_open s v ≡ true) × (fetched s.kept c ≡ None)
-LawfulSize s v c (size.Size n) = (is_open s v ≡ true) × (option_map length (fetched s.kept c) ≡ Some n)
+LawfulSize s v c SizeReply.BadView = is_open s v ≡ false
+LawfulSize s v c SizeReply.NotFound = (is_open s v ≡ true) × (fetched s.kept c ≡ None)
+LawfulSize s v c (SizeReply.Size n) = (is_open s v ≡ true) × (option_map length (fetched s.kept c) ≡ Some n)
 
 -- a fault of the disk may stop a head where no fault of the CIDs does: its blocks are read, or its record is written
 abbrev pub LawfulHead : State → List (List ℕ) → HeadReply → Type 0
-LawfulHead s cids head.NoMemory = unread_refusal s.kept cids ≡ None
-LawfulHead s cids head.DiskFault = unread_refusal s.kept cids ≡ None
-LawfulHead s cids (head.LogFull file need room) = ((height : ℕ) × IsHead s.kept cids height) × (file ≡ 0) × (need ≡ head_need cids) × (room < need)
-LawfulHead s cids (head.Set height) = IsHead s.kept cids height
+LawfulHead s cids HeadReply.NoMemory = unread_refusal s.kept cids ≡ None
+LawfulHead s cids HeadReply.DiskFault = unread_refusal s.kept cids ≡ None
+LawfulHead s cids (HeadReply.LogFull file need room) = ((height : ℕ) × IsHead s.kept cids height) × (file ≡ 0) × (need ≡ head_need cids) × (room < need)
+LawfulHead s cids (HeadReply.Set height) = IsHead s.kept cids height
 LawfulHead s cids refusal = head_refusal s.kept cids ≡ Some refusal
 
 -- a head is set, and its height is at least the threshold above the base
@@ -212,61 +194,61 @@ info_of s = record { config = s.config; height = option_map (λ h. h.0) s.head; 
 
 -- the answer is lawful for this call at this state
 abbrev pub Lawful : State → Call → Answer → Type 0
-Lawful s call.OpenView (answer.View r) = LawfulView s r
-Lawful s (call.Put v pairs) (answer.Put r) = LawfulPut s v pairs r
-Lawful s (call.Get v c) (answer.Get r) = LawfulGet s v c r
-Lawful s (call.CloseView v) (answer.Close r) = LawfulClose s v r
-Lawful s (call.Has v c) (answer.Has r) = LawfulHas s v c r
-Lawful s (call.Size v c) (answer.Size r) = LawfulSize s v c r
-Lawful s (call.SetHead cids) (answer.Head r) = LawfulHead s cids r
-Lawful s call.Info (answer.Info i) = i ≡ info_of s
+Lawful s Call.OpenView (Answer.View r) = LawfulView s r
+Lawful s (Call.Put v pairs) (Answer.Put r) = LawfulPut s v pairs r
+Lawful s (Call.Get v c) (Answer.Get r) = LawfulGet s v c r
+Lawful s (Call.CloseView v) (Answer.Close r) = LawfulClose s v r
+Lawful s (Call.Has v c) (Answer.Has r) = LawfulHas s v c r
+Lawful s (Call.Size v c) (Answer.Size r) = LawfulSize s v c r
+Lawful s (Call.SetHead cids) (Answer.Head r) = LawfulHead s cids r
+Lawful s Call.Info (Answer.Info i) = i ≡ info_of s
 Lawful s _ _ = ⊥
 
 abbrev pub after_view : State → ViewReply → State
-after_view s (view.Opened n) = record s { views = set.insert s.views n }
-after_view s view.TooManyViews = s
+after_view s (ViewReply.Opened n) = record s { views = set.insert s.views n }
+after_view s ViewReply.TooManyViews = s
 
 abbrev pub after_put : State → List (List ℕ × List ℕ) → PutReply → State
-after_put s pairs (put.Stored new) = record s { kept = with_blocks s.kept pairs; hot = with_hot s.hot pairs }
+after_put s pairs (PutReply.Stored new) = record s { kept = with_blocks s.kept pairs; hot = with_hot s.hot pairs }
 after_put s pairs _ = s
 
 abbrev pub after_close : State → ℕ → CloseReply → State
-after_close s v close.Closed = record s { views = set.remove s.views v }
-after_close s v close.BadView = s
+after_close s v CloseReply.Closed = record s { views = set.remove s.views v }
+after_close s v CloseReply.BadView = s
 
 abbrev pub after_head : State → List (List ℕ) → HeadReply → State
-after_head s cids (head.Set height) = record s { head = Some (height, cids) }
+after_head s cids (HeadReply.Set height) = record s { head = Some (height, cids) }
 after_head s cids _ = s
 
 -- the state after the answer
 abbrev pub After : State → Call → Answer → State
-After s call.OpenView (answer.View r) = after_view s r
-After s (call.Put v pairs) (answer.Put r) = after_put s pairs r
-After s (call.CloseView v) (answer.Close r) = after_close s v r
-After s (call.SetHead cids) (answer.Head r) = after_head s cids r
+After s Call.OpenView (Answer.View r) = after_view s r
+After s (Call.Put v pairs) (Answer.Put r) = after_put s pairs r
+After s (Call.CloseView v) (Answer.Close r) = after_close s v r
+After s (Call.SetHead cids) (Answer.Head r) = after_head s cids r
 After s _ _ = s
 
 -- the answer is out of memory
 abbrev pub is_no_memory : Answer → Bool
-is_no_memory (answer.Put put.NoMemory) = true
-is_no_memory (answer.Get get.NoMemory) = true
-is_no_memory (answer.Head head.NoMemory) = true
+is_no_memory (Answer.Put PutReply.NoMemory) = true
+is_no_memory (Answer.Get GetReply.NoMemory) = true
+is_no_memory (Answer.Head HeadReply.NoMemory) = true
 is_no_memory _ = false
 
 -- the answer is a fault of the disk
 abbrev pub is_disk_fault : Answer → Bool
-is_disk_fault (answer.Put put.DiskFault) = true
-is_disk_fault (answer.Get get.DiskFault) = true
-is_disk_fault (answer.Head head.DiskFault) = true
+is_disk_fault (Answer.Put PutReply.DiskFault) = true
+is_disk_fault (Answer.Get GetReply.DiskFault) = true
+is_disk_fault (Answer.Head HeadReply.DiskFault) = true
 is_disk_fault _ = false
 
 -- the answer is that too many CIDs would be kept
 abbrev pub is_table_full : Answer → Bool
-is_table_full (answer.Put (put.TableFull rows)) = true
+is_table_full (Answer.Put (PutReply.TableFull rows)) = true
 is_table_full _ = false
 
 -- the answer is that a log has no room
 abbrev pub is_log_full : Answer → Bool
-is_log_full (answer.Put (put.LogFull file need room)) = true
-is_log_full (answer.Head (head.LogFull file need room)) = true
+is_log_full (Answer.Put (PutReply.LogFull file need room)) = true
+is_log_full (Answer.Head (HeadReply.LogFull file need room)) = true
 is_log_full _ = false

@@ -1,11 +1,5 @@
--- The state of the store, as its clients see it.
---
--- config holds the settings, fixed when the store is made. kept is a finite map from CIDs to the bytes of their blocks.
--- hot holds the CIDs whose blocks are in the hot part of the store. head is none, or the height and the CIDs of the tipset that was last set. base is the edge of the last
--- compaction, and ended tells how many have ended. views holds the numbers of the open views.
---
--- The type promises nothing of how these hang together. What does hold is a law of histories: begun with a new store, a
--- history leaves a state in which no identity CID is kept, and exactly the kept CIDs are hot.
+-- The state of the store, as its clients see it; docs/MODEL.md says what each field is. What holds between the fields is a law of
+-- histories (`Proper`), and no promise of the type.
 use Rattle.std.specs.Prelude.{ℕ, List, Option, None}
 use Rattle.std.specs.Ordering.{nat_cmp}
 use Rattle.std.specs.FinMap as map

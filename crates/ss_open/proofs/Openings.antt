@@ -84,10 +84,11 @@ not_opened {D = D} {T = T} disk was back f r is able in_hot counts goes = subst 
     kept x other counts = ⊎_elim (λ (same : ◌≡◌ {A = Result T StoreFault} (Err x) (Err store_fault.DiskFault)). absurd (other (cc (same)))) (λ kept. kept) counts.kept
 
     at : (x : StoreFault) → IsOpeningFault x → ((file at : ℕ) → x ≡ store_fault.Damaged file at → file ≡ 0) → CountsFault {T = T} store_fault.DiskFault (disk.faults was) (disk.faults back) (Err x) → Opens {D = D} {disk = disk} was (Err (open_fault x, back))
-    at store_fault.NoMemory able in_hot counts = record { fits = tt; errors = λ y c same. subst IsOpenFault (fault_is opening.NoMemory y back c same) tt; counts = kept store_fault.NoMemory (λ wrong. let differ : ⊥ = cc (wrong) in differ) counts; goes = goes }
-    at store_fault.DiskFault able in_hot counts = record { fits = tt; errors = λ y c same. subst IsOpenFault (fault_is opening.DiskFault y back c same) tt; counts = counts.rose refl; goes = goes }
+    at store_fault.NoMemory able in_hot counts = record { fits = tt; views = tt; errors = λ y c same. subst IsOpenFault (fault_is opening.NoMemory y back c same) tt; counts = kept store_fault.NoMemory (λ wrong. let differ : ⊥ = cc (wrong) in differ) counts; goes = goes }
+    at store_fault.DiskFault able in_hot counts = record { fits = tt; views = tt; errors = λ y c same. subst IsOpenFault (fault_is opening.DiskFault y back c same) tt; counts = counts.rose refl; goes = goes }
     at (store_fault.Damaged file place) able in_hot counts = record {
       fits = tt;
+      views = tt;
       errors = λ y c same. subst IsOpenFault (fault_is (opening.Damaged file place) y back c same) (in_hot file place refl);
       counts = kept (store_fault.Damaged file place) (λ wrong. let differ : ⊥ = cc (wrong) in differ) counts;
       goes = goes;

@@ -2,14 +2,12 @@
 use Rattle.std.specs.Prelude.{◌≡◌, ◌⊎◌, ℕ, List, [], ◌∷◌}
 use Rattle.ss_disk.specs.declared.disk.Disk.{Ghosts}
 use Rattle.ss_disk.specs.Disk.{Files, Evolves}
-use Rattle.ss_records.specs.declared.record.Config.{Config as Settings}
-use Rattle.ss_records.specs.declared.record.Record.{Record}
-use Rattle.ss_records.specs.declared.record.Record.TheVariants.{Generation, Config}
+use Rattle.ss_records.specs.declared.record.{Config.Config as Settings, Record.Record}
 use Rattle.ss_open.specs.Opening.{AreEmptyBeside}
 
 -- the records of a new store
 abbrev pub first_records : Settings → List Record
-first_records settings = Generation 1 ∷ Config settings ∷ []
+first_records settings = Record.Generation 1 ∷ Record.Config settings ∷ []
 
 -- the hot log's file stays
 abbrev pub KeepsFirst : Files → Files → Type 0

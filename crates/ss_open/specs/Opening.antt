@@ -1,12 +1,12 @@
 -- What opening a store, and making one, come to.
 use Rattle.std.specs.Prelude.{◌≡◌, ◌⊎◌, ℕ, ◌<◌, ◌≤◌, List, [], None, Result, Ok, Err, IsTrue, IfOk}
 use Rattle.std.specs.FinMap as finite_map
+use Rattle.std.specs.FinSet as finite_set
 use Rattle.ss_disk.specs.declared.disk.Disk.{Ghosts}
 use Rattle.ss_disk.specs.Disk.{Files, Same, Evolves, Rose}
 use Rattle.ss_disk.specs.Calls.{Goes}
 use Rattle.ss_gatelog.specs.Log.{HasList}
-use Rattle.ss_records.specs.declared.record.Config.{Config as Settings}
-use Rattle.ss_records.specs.declared.record.Record.{Record}
+use Rattle.ss_records.specs.declared.record.{Config.Config as Settings, Record.Record}
 use Rattle.ss_records.specs.Record.{SettingsFit}
 use Rattle.ss_hot.specs.Half.{hot_blocks}
 use Rattle.ss_hot.specs.File.{HasSettings, IsHalf, IsDamagedHalf}
@@ -14,7 +14,6 @@ use Rattle.ss_model.specs.State.{State, empty_state}
 use Rattle.ss_core.specs.declared.split_core.SplitCore.{SplitCore}
 use Rattle.ss_core.specs.StandsFor.{HasState, StandsFor}
 use Rattle.ss_open.specs.declared.fault.OpenFault.{OpenFault}
-use Rattle.ss_open.specs.declared.fault.OpenFault.TheVariants as opening
 
 -- no settings are committed in a file
 abbrev pub HasNoStore : List ℕ → Type 0
@@ -49,26 +48,27 @@ disk_of (Err (fault, back)) = back
 
 -- A fault that the disk counted is answered as one, and nothing else is.
 abbrev pub CountsOpening : {D : Type 0} {disk : Ghosts D} → ℕ → ℕ → Result (SplitCore D disk) (OpenFault × D) → Type 0
-CountsOpening before now (Err (opening.DiskFault, back)) = Rose before now
+CountsOpening before now (Err (OpenFault.DiskFault, back)) = Rose before now
 CountsOpening before now _ = now ≡ before
 
 -- Where the disk exposes its files: the store stands for the state that the file had; or the file has no store, or is damaged.
 abbrev pub Opened : {D : Type 0} (disk : Ghosts D) → D → Result (SplitCore D disk) (OpenFault × D) → Type 0
 Opened disk was (Ok core) = (s : State) × HasState (disk.files was 0) core.hot.log.end s × StandsFor core s None
-Opened disk was (Err (opening.NoStore, back)) = HasNoStore (disk.files was 0)
-Opened disk was (Err (opening.Damaged file at, back)) = (file ≡ 0) × IsDamagedStore (disk.files was 0) at
-Opened disk was (Err (opening.StoreExists, back)) = ⊥
+Opened disk was (Err (OpenFault.NoStore, back)) = HasNoStore (disk.files was 0)
+Opened disk was (Err (OpenFault.Damaged file at, back)) = (file ≡ 0) × IsDamagedStore (disk.files was 0) at
+Opened disk was (Err (OpenFault.StoreExists, back)) = ⊥
 Opened disk was (Err _) = Unit {0}
 
 -- a fault with which a store is not opened; a damage is in file 0
 abbrev pub IsOpenFault : OpenFault → Type 0
-IsOpenFault opening.StoreExists = ⊥
-IsOpenFault (opening.Damaged file at) = file ≡ 0
+IsOpenFault OpenFault.StoreExists = ⊥
+IsOpenFault (OpenFault.Damaged file at) = file ≡ 0
 IsOpenFault _ = Unit {0}
 
--- Over any disk: no file changes.
+-- Over any disk: no file changes, and no view is open.
 pub record Opens {D : Type 0} {disk : Ghosts D} (was : D) (result : Result (SplitCore D disk) (OpenFault × D)) : Type 0 where
   pub fits : IfOk result (λ core. SettingsFit core.hot.settings)
+  pub views : IfOk result (λ core. core.views ≡ finite_set.empty)
   pub errors : (fault : OpenFault) (back : D) → result ≡ Err (fault, back) → IsOpenFault fault
   pub counts : CountsOpening (disk.faults was) (disk.faults (disk_of result)) result
   pub goes : Goes disk Same was (disk_of result)
@@ -76,13 +76,13 @@ pub record Opens {D : Type 0} {disk : Ghosts D} (was : D) (result : Result (Spli
 -- Where the disk exposes its files: the store that was made, or the settings of the one that is there.
 abbrev pub Made : {D : Type 0} (disk : Ghosts D) → D → Settings → Result (SplitCore D disk) (OpenFault × D) → Type 0
 Made disk was settings (Ok core) = HasNoStore (disk.files was 0) × StandsFor core (empty_state settings) None × IsNewStore disk core.disk settings
-Made disk was settings (Err (opening.StoreExists, back)) = (committed : Settings) × HasSettings (disk.files was 0) committed
+Made disk was settings (Err (OpenFault.StoreExists, back)) = (committed : Settings) × HasSettings (disk.files was 0) committed
 Made disk was settings (Err _) = Unit {0}
 
 -- a fault with which a store is not made
 abbrev pub IsInitFault : OpenFault → Type 0
-IsInitFault opening.NoStore = ⊥
-IsInitFault (opening.Damaged file at) = ⊥
+IsInitFault OpenFault.NoStore = ⊥
+IsInitFault (OpenFault.Damaged file at) = ⊥
 IsInitFault _ = Unit {0}
 
 -- Where a store is, or memory is missing, no file changes. Each image since the start has the hot log's file as an image then had
@@ -91,5 +91,5 @@ pub record Inits {D : Type 0} {disk : Ghosts D} (was : D) (settings : Settings) 
   pub errors : (fault : OpenFault) (back : D) → result ≡ Err (fault, back) → IsInitFault fault
   pub counts : CountsOpening (disk.faults was) (disk.faults (disk_of result)) result
   pub kept : IsTrue disk.told → HasNoStore (disk.files was 0) ⊎ Goes disk Same was (disk_of result)
-  pub memory : (back : D) → result ≡ Err (opening.NoMemory, back) → Goes disk Same was back
+  pub memory : (back : D) → result ≡ Err (OpenFault.NoMemory, back) → Goes disk Same was back
   pub stops : IsTrue disk.told → Evolves (disk.moment was) (disk.image was) (disk.moment (disk_of result)) (disk.image (disk_of result)) (λ old new. (new 0 ≡ old 0) ⊎ AreEmptyBeside settings.limit new)

@@ -6,13 +6,8 @@ use Rattle.std.specs.Int.{Width, w8, w16, w32, w64, byte_len, from_be_bytes}
 use Rattle.ss_cid.specs.Cid.{cid_len, hash_of}
 use Rattle.ss_cid.specs.Steps.{◌>>=◌}
 use Rattle.ss_cid.specs.declared.fault.CidFault.{CidFault}
-use Rattle.ss_cid.specs.declared.fault.CidFault.TheVariants.{Short}
 use Rattle.ss_records.specs.declared.fields.Allowed.{Allowed}
-use Rattle.ss_records.specs.declared.fields.Allowed.TheVariants.{Any, Stored}
-use Rattle.ss_records.specs.declared.record.Mode.{Mode}
-use Rattle.ss_records.specs.declared.record.Mode.TheVariants.{Discard, Universal}
-use Rattle.ss_records.specs.declared.record.Record.{Record}
-use Rattle.ss_records.specs.declared.record.Record.TheVariants.{Config, Generation, Put, Dropped, Head, Base, Start, Cold, Sealed, Copied, Purged}
+use Rattle.ss_records.specs.declared.record.{Mode.Mode, Record.Record}
 
 -- so many bytes
 unfoldable pub bytes_at : ℕ → List ℕ → Result (List ℕ × List ℕ) ℕ
@@ -32,7 +27,7 @@ number_at w low high bytes = do
 -- a CID by its length, or its fault; one that is cut short ends the body early
 abbrev pub cid_taken : List ℕ → Result ℕ CidFault → Result (List ℕ × List ℕ) ℕ
 cid_taken bytes (Ok n) = Ok (take n bytes, drop n bytes)
-cid_taken bytes (Err (Short at)) = Err 0
+cid_taken bytes (Err (CidFault.Short at)) = Err 0
 cid_taken bytes (Err _) = Err (length bytes)
 
 -- a CID
@@ -47,8 +42,8 @@ stored_cid_at bytes = do
 
 -- a CID of those that are allowed
 abbrev pub allowed_cid_at : Allowed → List ℕ → Result (List ℕ × List ℕ) ℕ
-allowed_cid_at Any = cid_at
-allowed_cid_at Stored = stored_cid_at
+allowed_cid_at Allowed.Any = cid_at
+allowed_cid_at Allowed.Stored = stored_cid_at
 
 -- a block, which has at most 8,388,608 bytes with its CID
 unfoldable pub block_at : List ℕ → Result ((List ℕ × List ℕ) × List ℕ) ℕ
@@ -90,7 +85,7 @@ number_of low bytes = do
   ended number.0 number.1
 
 abbrev pub mode_of : ℕ → Mode
-mode_of n = if n == 0 then Discard else Universal
+mode_of n = if n == 0 then Mode.Discard else Mode.Universal
 
 unfoldable pub config_of : List ℕ → Result Record ℕ
 config_of bytes = do
@@ -101,26 +96,26 @@ config_of bytes = do
   batch ← number_at w32 1 4096 threshold.1
   rows ← number_at w32 1 (2 ^ 32 - 1) batch.1
   limit ← number_at w64 65536 (2 ^ 40) rows.1
-  ended (Config (record { mode = mode_of mode.0; depth = depth.0; threshold = threshold.0; batch = batch.0; rows = rows.0; limit = limit.0 })) limit.1
+  ended (Record.Config (record { mode = mode_of mode.0; depth = depth.0; threshold = threshold.0; batch = batch.0; rows = rows.0; limit = limit.0 })) limit.1
 
 unfoldable pub head_of : List ℕ → Result Record ℕ
 head_of bytes = do
   count ← number_at w8 1 64 bytes
   height ← number_at w64 0 (2 ^ 63 - 1) count.1
   cids ← items_of cid_at count.0 height.1
-  Ok (Head height.0 cids)
+  Ok (Record.Head height.0 cids)
 
 unfoldable pub base_of : List ℕ → Result Record ℕ
 base_of bytes = do
   base ← number_at w64 0 (2 ^ 63 - 1) bytes
   ended ← number_of 0 base.1
-  Ok (Base base.0 ended)
+  Ok (Record.Base base.0 ended)
 
 unfoldable pub start_of : List ℕ → Result Record ℕ
 start_of bytes = do
   edge ← number_at w64 0 (2 ^ 64 - 1) bytes
   cids ← list_of w8 64 cid_at edge.1
-  Ok (Start edge.0 cids)
+  Ok (Record.Start edge.0 cids)
 
 -- a record of what its fields hold
 abbrev pub as_record : {X : Type 0} → (X → Record) → Result X ℕ → Result Record ℕ
@@ -133,16 +128,16 @@ unfoldable pub record_of : List ℕ → Result Record ℕ
 record_of [] = Err 0
 record_of (kind ∷ fields) =
     if kind == 0x01 then config_of fields
-    else if kind == 0x02 then as_record Generation (number_of 1 fields)
-    else if kind == 0x03 then as_record Put (list_of w16 4096 block_at fields)
-    else if kind == 0x04 then as_record Dropped (list_of w16 4096 stored_cid_at fields)
+    else if kind == 0x02 then as_record Record.Generation (number_of 1 fields)
+    else if kind == 0x03 then as_record Record.Put (list_of w16 4096 block_at fields)
+    else if kind == 0x04 then as_record Record.Dropped (list_of w16 4096 stored_cid_at fields)
     else if kind == 0x05 then head_of fields
     else if kind == 0x06 then base_of fields
     else if kind == 0x11 then start_of fields
-    else if kind == 0x12 then as_record Cold (list_of w16 4096 stored_cid_at fields)
-    else if kind == 0x13 then as_record Sealed (number_of 0 fields)
-    else if kind == 0x14 then as_record Copied (number_of 0 fields)
-    else if kind == 0x15 then as_record Purged (number_of 0 fields)
+    else if kind == 0x12 then as_record Record.Cold (list_of w16 4096 stored_cid_at fields)
+    else if kind == 0x13 then as_record Record.Sealed (number_of 0 fields)
+    else if kind == 0x14 then as_record Record.Copied (number_of 0 fields)
+    else if kind == 0x15 then as_record Record.Purged (number_of 0 fields)
     else Err (suc (length fields))
 
 -- the fault's place in a body of so many bytes

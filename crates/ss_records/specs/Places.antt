@@ -1,11 +1,8 @@
 -- Where the blocks of a Put lie in its body.
 use Rattle.std.specs.Prelude.{◌≡◌, ℕ, zero, suc, ◌+◌, ◌-◌, List, [], ◌∷◌, ◌++◌, length, map, take, drop, Result, Ok, Err}
 use Rattle.ss_records.specs.declared.fault.RecordFault.{RecordFault}
-use Rattle.ss_records.specs.declared.fault.RecordFault.TheVariants.{BadRecord, NoMemory}
-use Rattle.ss_records.specs.declared.places.BlockPlace.{BlockPlace}
-use Rattle.ss_records.specs.declared.places.PutBlocks.{PutBlocks}
+use Rattle.ss_records.specs.declared.places.{BlockPlace.BlockPlace, PutBlocks.PutBlocks}
 use Rattle.ss_records.specs.declared.record.Record.{Record}
-use Rattle.ss_records.specs.declared.record.Record.TheVariants.{Put}
 use Rattle.ss_records.specs.Record.{block}
 use Rattle.ss_records.specs.Fields.{block_at}
 
@@ -17,7 +14,7 @@ places at (b ∷ bs) = record { cid = b.0; at = at + length b.0 + 4; len = lengt
 
 -- the places of a record's blocks: a Put has them behind its kind and their count
 abbrev pub places_of : Record → List BlockPlace
-places_of (Put blocks) = places 3 blocks
+places_of (Record.Put blocks) = places 3 blocks
 places_of _ = []
 
 -- the body is of the kind of a Put
@@ -28,12 +25,12 @@ IsPut body = take 1 body ≡ 0x03 ∷ []
 abbrev pub block_then : ℕ → ℕ → (List ℕ → List (Result BlockPlace RecordFault)) → Result ((List ℕ × List ℕ) × List ℕ) ℕ → List (Result BlockPlace RecordFault)
 block_then end len others (Ok found) =
     Ok (record { cid = found.0.0; at = end - len + length found.0.0 + 4; len = length found.0.1 }) ∷ others found.1
-block_then end len others (Err left) = Err (BadRecord (end - left)) ∷ []
+block_then end len others (Err left) = Err (RecordFault.BadRecord (end - left)) ∷ []
 
 -- what is read of the places of so many blocks, and of nothing behind them, in a body of `end` bytes
 unfoldable pub blocks_from : ℕ → ℕ → List ℕ → List (Result BlockPlace RecordFault)
 blocks_from end zero [] = []
-blocks_from end zero (b ∷ bytes) = Err (BadRecord end) ∷ []
+blocks_from end zero (b ∷ bytes) = Err (RecordFault.BadRecord end) ∷ []
 blocks_from end (suc n) bytes = block_then end (length bytes) (blocks_from end n) (block_at bytes)
 
 -- what an iterator has left
@@ -43,12 +40,12 @@ places_left blocks = blocks_from blocks.end blocks.due blocks.rest.now
 -- the items are the places of the blocks of the record that is read; or some places, and then its fault
 abbrev pub ArePlaces : Result Record ℕ → List (Result BlockPlace RecordFault) → Type 0
 ArePlaces (Ok r) items = items ≡ map Ok (places_of r)
-ArePlaces (Err at) items = (front : List BlockPlace) × (items ≡ map Ok front ++ Err (BadRecord at) ∷ [])
+ArePlaces (Err at) items = (front : List BlockPlace) × (items ≡ map Ok front ++ Err (RecordFault.BadRecord at) ∷ [])
 
 -- a refusal carries the place of the body's fault
 abbrev pub IsFaultOf : Result Record ℕ → RecordFault → Type 0
-IsFaultOf read (BadRecord at) = read ≡ Err at
-IsFaultOf read NoMemory = ⊥
+IsFaultOf read (RecordFault.BadRecord at) = read ≡ Err at
+IsFaultOf read RecordFault.NoMemory = ⊥
 
 -- the bytes of a body at a place
 abbrev pub bytes_in : List ℕ → BlockPlace → List ℕ

@@ -4,11 +4,7 @@ use Rattle.std.specs.Prelude.{◌≢◌, ℕ, ◌+◌, ◌^◌, ◌<◌, ◌≤�
 use Rattle.std.specs.List.{flat_map}
 use Rattle.std.specs.Int.{Width, w8, w16, w32, w64, to_be_bytes}
 use Rattle.ss_cid.specs.Cid.{IsCid, hash_of}
-use Rattle.ss_records.specs.declared.record.Mode.{Mode}
-use Rattle.ss_records.specs.declared.record.Mode.TheVariants.{Discard, Universal}
-use Rattle.ss_records.specs.declared.record.Config.{Config as Settings}
-use Rattle.ss_records.specs.declared.record.Record.{Record}
-use Rattle.ss_records.specs.declared.record.Record.TheVariants.{Config, Generation, Put, Dropped, Head, Base, Start, Cold, Sealed, Copied, Purged}
+use Rattle.ss_records.specs.declared.record.{Mode.Mode, Config.Config as Settings, Record.Record}
 
 -- a number in the bytes of its width, the highest first
 unfoldable pub number : Width → ℕ → List ℕ
@@ -23,8 +19,8 @@ abbrev pub block : List ℕ × List ℕ → List ℕ
 block b = b.0 ++ (number w32 (length b.1) ++ b.1)
 
 abbrev pub mode_number : Mode → ℕ
-mode_number Discard = 0
-mode_number Universal = 1
+mode_number Mode.Discard = 0
+mode_number Mode.Universal = 1
 
 -- the settings behind the format, which is 1
 abbrev pub settings : Settings → List ℕ
@@ -34,17 +30,17 @@ settings c =
 
 -- the body of a record: its kind, and its fields
 unfoldable pub spelling : Record → List ℕ
-spelling (Config c) = 0x01 ∷ settings c
-spelling (Generation n) = 0x02 ∷ number w64 n
-spelling (Put blocks) = 0x03 ∷ (number w16 (length blocks) ++ flat_map block blocks)
-spelling (Dropped cids) = 0x04 ∷ (number w16 (length cids) ++ row cids)
-spelling (Head height cids) = 0x05 ∷ (number w8 (length cids) ++ (number w64 height ++ row cids))
-spelling (Base base ended) = 0x06 ∷ (number w64 base ++ number w64 ended)
-spelling (Start edge cids) = 0x11 ∷ (number w64 edge ++ (number w8 (length cids) ++ row cids))
-spelling (Cold cids) = 0x12 ∷ (number w16 (length cids) ++ row cids)
-spelling (Sealed total) = 0x13 ∷ number w64 total
-spelling (Copied up_to) = 0x14 ∷ number w64 up_to
-spelling (Purged up_to) = 0x15 ∷ number w64 up_to
+spelling (Record.Config c) = 0x01 ∷ settings c
+spelling (Record.Generation n) = 0x02 ∷ number w64 n
+spelling (Record.Put blocks) = 0x03 ∷ (number w16 (length blocks) ++ flat_map block blocks)
+spelling (Record.Dropped cids) = 0x04 ∷ (number w16 (length cids) ++ row cids)
+spelling (Record.Head height cids) = 0x05 ∷ (number w8 (length cids) ++ (number w64 height ++ row cids))
+spelling (Record.Base base ended) = 0x06 ∷ (number w64 base ++ number w64 ended)
+spelling (Record.Start edge cids) = 0x11 ∷ (number w64 edge ++ (number w8 (length cids) ++ row cids))
+spelling (Record.Cold cids) = 0x12 ∷ (number w16 (length cids) ++ row cids)
+spelling (Record.Sealed total) = 0x13 ∷ number w64 total
+spelling (Record.Copied up_to) = 0x14 ∷ number w64 up_to
+spelling (Record.Purged up_to) = 0x15 ∷ number w64 up_to
 
 -- the settings are within their limits
 pub record SettingsFit (c : Settings) : Type 0 where
@@ -68,31 +64,31 @@ BlockFits b = IsStored b.0 × (length b.0 + length b.1 ≤ 8388608)
 
 -- the counts and bounds of a record
 abbrev pub Fits : Record → Type 0
-Fits (Config c) = SettingsFit c
-Fits (Generation n) = 1 ≤ n
-Fits (Put blocks) = IsCount 4096 (length blocks) × All BlockFits blocks
-Fits (Dropped cids) = IsCount 4096 (length cids) × All IsStored cids
-Fits (Head height cids) = (height < 2 ^ 63) × IsCount 64 (length cids)
-Fits (Base base ended) = base < 2 ^ 63
-Fits (Start edge cids) = IsCount 64 (length cids)
-Fits (Cold cids) = IsCount 4096 (length cids) × All IsStored cids
-Fits (Sealed total) = Unit {0}
-Fits (Copied up_to) = Unit {0}
-Fits (Purged up_to) = Unit {0}
+Fits (Record.Config c) = SettingsFit c
+Fits (Record.Generation n) = 1 ≤ n
+Fits (Record.Put blocks) = IsCount 4096 (length blocks) × All BlockFits blocks
+Fits (Record.Dropped cids) = IsCount 4096 (length cids) × All IsStored cids
+Fits (Record.Head height cids) = (height < 2 ^ 63) × IsCount 64 (length cids)
+Fits (Record.Base base ended) = base < 2 ^ 63
+Fits (Record.Start edge cids) = IsCount 64 (length cids)
+Fits (Record.Cold cids) = IsCount 4096 (length cids) × All IsStored cids
+Fits (Record.Sealed total) = Unit {0}
+Fits (Record.Copied up_to) = Unit {0}
+Fits (Record.Purged up_to) = Unit {0}
 
 -- what holds of each value of the type: its numbers have 64 bits, and its CIDs are CIDs
 abbrev pub IsValue : Record → Type 0
-IsValue (Config c) = Unit {0}
-IsValue (Generation n) = n < 2 ^ 64
-IsValue (Put blocks) = All (λ b. IsCid b.0) blocks
-IsValue (Dropped cids) = All IsCid cids
-IsValue (Head height cids) = All IsCid cids
-IsValue (Base base ended) = ended < 2 ^ 64
-IsValue (Start edge cids) = (edge < 2 ^ 64) × All IsCid cids
-IsValue (Cold cids) = All IsCid cids
-IsValue (Sealed total) = total < 2 ^ 64
-IsValue (Copied up_to) = up_to < 2 ^ 64
-IsValue (Purged up_to) = up_to < 2 ^ 64
+IsValue (Record.Config c) = Unit {0}
+IsValue (Record.Generation n) = n < 2 ^ 64
+IsValue (Record.Put blocks) = All (λ b. IsCid b.0) blocks
+IsValue (Record.Dropped cids) = All IsCid cids
+IsValue (Record.Head height cids) = All IsCid cids
+IsValue (Record.Base base ended) = ended < 2 ^ 64
+IsValue (Record.Start edge cids) = (edge < 2 ^ 64) × All IsCid cids
+IsValue (Record.Cold cids) = All IsCid cids
+IsValue (Record.Sealed total) = total < 2 ^ 64
+IsValue (Record.Copied up_to) = up_to < 2 ^ 64
+IsValue (Record.Purged up_to) = up_to < 2 ^ 64
 
 -- a body with four spare bytes in front of it and one behind, which a log writes its length and its gate into
 abbrev pub frame : List ℕ → List ℕ

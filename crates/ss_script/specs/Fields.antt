@@ -1,8 +1,4 @@
--- The fields of a script line.
---
--- Fields are separated by one space. A client is one digit. A number is decimal, below 2^32 and without leading zeros. A CID that
--- begins with `0` is the hexadecimal of its bytes, else it is its text. The bytes of a block are `-` for none, or else an even
--- number of hexadecimal digits, at least two, of either case. No field is empty.
+-- The fields of a script line, none of which is empty; docs/FORMATS.md has the form of each.
 use Rattle.std.specs.Prelude.{ℕ, ◌+◌, ◌-◌, ◌^◌, ◌==◌, ◌&&◌, ◌||◌, nat_lt, nat_le, Bool, not, List, [], ◌∷◌, if◌then◌else◌, length, slice_index, codes, Option, Some, None, Result, Ok, Err}
 use Rattle.std.specs.List.{slice_split, list_all}
 use Rattle.std.specs.Option.{option_and_then, ok_or}
@@ -16,18 +12,17 @@ use Rattle.ss_cid.specs.Steps.{◌>>=◌}
 use Rattle.ss_cid.specs.Text.{cid_from_text}
 use Rattle.hex.specs.Hex.{decode_of}
 use Rattle.ss_script.specs.declared.fault.ScriptKind.{ScriptKind}
-use Rattle.ss_script.specs.declared.fault.ScriptKind.TheVariants.{BadClient, BadFields, BadNumber, BadCid, BadHex}
 
 abbrev pub fields_of : List ℕ → List (List ℕ)
 fields_of line = slice_split (λ b. b == 32) line
 
 -- a field as its reader judges it, if it is not empty
 abbrev pub field_by : {A : Type 0} → (List ℕ → Result A ScriptKind) → List ℕ → Result A ScriptKind
-field_by read field = if length field == 0 then Err BadFields else read field
+field_by read field = if length field == 0 then Err ScriptKind.BadFields else read field
 
 -- the first field as its reader judges it, and the fields after it
 abbrev pub first_by : {A : Type 0} → (List ℕ → Result A ScriptKind) → List (List ℕ) → Result (A × List (List ℕ)) ScriptKind
-first_by read [] = Err BadFields
+first_by read [] = Err ScriptKind.BadFields
 first_by read (field ∷ fields) = do
   x ← field_by read field
   Ok (x, fields)
@@ -35,13 +30,13 @@ first_by read (field ∷ fields) = do
 -- no field is left
 abbrev pub ended : List (List ℕ) → Result (Unit {0}) ScriptKind
 ended [] = Ok tt
-ended (field ∷ fields) = Err BadFields
+ended (field ∷ fields) = Err ScriptKind.BadFields
 
 -- a digit below the number of clients
 unfoldable pub client_of : ℕ → List ℕ → Result ℕ ScriptKind
 client_of clients field =
     if (length field == 1) && (nat_le 48 (slice_index field 0) && nat_lt (slice_index field 0) (48 + clients)) then Ok (slice_index field 0 - 48)
-    else Err BadClient
+    else Err ScriptKind.BadClient
 
 -- digits, of which the first is no zero unless it stands alone
 abbrev pub is_number : List ℕ → Bool
@@ -49,7 +44,7 @@ is_number field = nat_lt 0 (length field) && (list_all is_ascii_digit field && (
 
 -- a decimal number below 2^32
 unfoldable pub number_of : List ℕ → Result ℕ ScriptKind
-number_of field = if is_number field && nat_lt (digits_value 10 field) (2 ^ 32) then Ok (digits_value 10 field) else Err BadNumber
+number_of field = if is_number field && nat_lt (digits_value 10 field) (2 ^ 32) then Ok (digits_value 10 field) else Err ScriptKind.BadNumber
 
 -- the bytes of hexadecimal digits
 abbrev pub bytes_of : List ℕ → Option (List ℕ)
@@ -66,8 +61,8 @@ cid_of_digits field = option_and_then (λ bytes. whole_cid bytes (cid_at bytes))
 
 -- a CID: its bytes in hexadecimal, which begin with 0, or else its text
 unfoldable pub cid_of : List ℕ → Result (List ℕ) ScriptKind
-cid_of field = ok_or (if slice_index field 0 == 48 then cid_of_digits field else result_ok (cid_from_text field)) BadCid
+cid_of field = ok_or (if slice_index field 0 == 48 then cid_of_digits field else result_ok (cid_from_text field)) ScriptKind.BadCid
 
 -- the bytes of a block
 unfoldable pub data_of : List ℕ → Result (List ℕ) ScriptKind
-data_of field = if bytes_eq field (codes "-") then Ok [] else ok_or (bytes_of field) BadHex
+data_of field = if bytes_eq field (codes "-") then Ok [] else ok_or (bytes_of field) ScriptKind.BadHex

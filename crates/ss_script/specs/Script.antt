@@ -1,12 +1,5 @@
--- The script of `trace`. The text is lines, each ended by LF; the last LF may be missing. A line that is empty or begins
--- with `#` holds no call but is counted, from 1. Any other is a client, and a call of its with what it names:
---
---     C open    C close K    C put K CID DATA CID DATA ..    C get K CID    C has K CID    C size K CID
---     C head CID CID ..    C info
---
--- C is the client, a digit, and K its view from its `open` line number K, counted from 0. A put has any number of pairs and a
--- head any number of CIDs, none included. Fields are judged from left to right, and a bad line is reported for the first that
--- is at fault, whether it is missing, empty, one too many or not of its form. Line 100,001 is at fault whatever it holds.
+-- The script of `trace`; docs/FORMATS.md has the form of each line. Fields are judged from left to right, and a bad line is reported
+-- for the first that is at fault, whether it is missing, empty, one too many or not of its form.
 use Rattle.std.specs.Prelude.{ℕ, ◌+◌, ◌==◌, ◌||◌, nat_lt, Bool, List, [], ◌∷◌, ◌++◌, if◌then◌else◌, length, slice_index, codes, Option, Some, None, Result, Ok, Err}
 use Rattle.std.specs.List.{slice_split}
 use Rattle.std.specs.Option.{option_to_list}
@@ -15,12 +8,8 @@ use Rattle.std.specs.Io.BufRead.{strip_last}
 use Rattle.ss_cid.specs.Steps.{◌>>=◌}
 use Rattle.ss_script.specs.declared.TheConstants.{LINES}
 use Rattle.ss_script.specs.declared.call.ScriptCall.{ScriptCall}
-use Rattle.ss_script.specs.declared.call.ScriptCall.TheVariants as call
 use Rattle.ss_script.specs.declared.line.Line.{Line}
-use Rattle.ss_script.specs.declared.fault.ScriptKind.{ScriptKind}
-use Rattle.ss_script.specs.declared.fault.ScriptKind.TheVariants.{UnknownCall, BadFields, TooManyLines, NotYet}
-use Rattle.ss_script.specs.declared.fault.ScriptFault.{ScriptFault}
-use Rattle.ss_script.specs.declared.fault.ScriptFault.TheVariants.{Bad}
+use Rattle.ss_script.specs.declared.fault.{ScriptKind.ScriptKind, ScriptFault.ScriptFault}
 use Rattle.ss_script.specs.Fields.{fields_of, field_by, first_by, ended, client_of, number_of, cid_of, data_of}
 
 -- the lines of a text; after the LF that ends it there is none
@@ -36,7 +25,7 @@ abbrev pub pairs_of : List (List ℕ) → Result (List (List ℕ × List ℕ)) S
 pairs_of [] = Ok []
 pairs_of (cid ∷ []) = do
   c ← field_by cid_of cid
-  Err BadFields
+  Err ScriptKind.BadFields
 pairs_of (cid ∷ block ∷ fields) = do
   c ← field_by cid_of cid
   b ← field_by data_of block
@@ -61,13 +50,13 @@ abbrev pub close_of : List (List ℕ) → Result ScriptCall ScriptKind
 close_of fields = do
   view ← first_by number_of fields
   end ← ended view.1
-  Ok (call.CloseView view.0)
+  Ok (ScriptCall.CloseView view.0)
 
 abbrev pub put_of : List (List ℕ) → Result ScriptCall ScriptKind
 put_of fields = do
   view ← first_by number_of fields
   pairs ← pairs_of view.1
-  Ok (call.Put view.0 pairs)
+  Ok (ScriptCall.Put view.0 pairs)
 
 -- the view and the CID of a get, a has or a size
 abbrev pub view_and_cid_of : List (List ℕ) → Result (ℕ × List ℕ) ScriptKind
@@ -77,39 +66,30 @@ view_and_cid_of fields = do
   end ← ended cid.1
   Ok (view.0, cid.0)
 
-abbrev pub get_of : List (List ℕ) → Result ScriptCall ScriptKind
-get_of fields = do
-  named ← view_and_cid_of fields
-  Ok (call.Get named.0 named.1)
-
-abbrev pub has_of : List (List ℕ) → Result ScriptCall ScriptKind
-has_of fields = do
-  named ← view_and_cid_of fields
-  Ok (call.Has named.0 named.1)
-
-abbrev pub size_of : List (List ℕ) → Result ScriptCall ScriptKind
-size_of fields = do
-  named ← view_and_cid_of fields
-  Ok (call.Size named.0 named.1)
+-- such a call, by its variant
+abbrev pub cid_call_of : (ℕ → List ℕ → ScriptCall) → List (List ℕ) → Result ScriptCall ScriptKind
+cid_call_of named fields = do
+  asked ← view_and_cid_of fields
+  Ok (named asked.0 asked.1)
 
 abbrev pub head_of : List (List ℕ) → Result ScriptCall ScriptKind
 head_of fields = do
   cids ← cids_of fields
-  Ok (call.SetHead cids)
+  Ok (ScriptCall.SetHead cids)
 
 -- the call of a name and the fields after it
 abbrev pub named_call : List ℕ → List (List ℕ) → Result ScriptCall ScriptKind
 named_call name fields =
-    if bytes_eq name (codes "open") then bare_of call.OpenView fields
+    if bytes_eq name (codes "open") then bare_of ScriptCall.OpenView fields
     else if bytes_eq name (codes "close") then close_of fields
     else if bytes_eq name (codes "put") then put_of fields
-    else if bytes_eq name (codes "get") then get_of fields
-    else if bytes_eq name (codes "has") then has_of fields
-    else if bytes_eq name (codes "size") then size_of fields
+    else if bytes_eq name (codes "get") then cid_call_of ScriptCall.Get fields
+    else if bytes_eq name (codes "has") then cid_call_of ScriptCall.Has fields
+    else if bytes_eq name (codes "size") then cid_call_of ScriptCall.Size fields
     else if bytes_eq name (codes "head") then head_of fields
-    else if bytes_eq name (codes "info") then bare_of call.Info fields
-    else if bytes_eq name (codes "begin") || bytes_eq name (codes "step") then Err NotYet
-    else Err UnknownCall
+    else if bytes_eq name (codes "info") then bare_of ScriptCall.Info fields
+    else if bytes_eq name (codes "begin") || bytes_eq name (codes "step") then Err ScriptKind.NotYet
+    else Err ScriptKind.UnknownCall
 
 -- the client, one of so many, and the call of a line's fields
 abbrev pub call_of : ℕ → List (List ℕ) → Result (ℕ × ScriptCall) ScriptKind
@@ -121,12 +101,12 @@ call_of clients fields = do
 
 abbrev pub line_with : ℕ → Result (ℕ × ScriptCall) ScriptKind → Result (Option Line) ScriptFault
 line_with n (Ok c) = Ok (Some (record { client = c.0; line = n; call = c.1 }))
-line_with n (Err kind) = Err (Bad n kind)
+line_with n (Err kind) = Err (ScriptFault.Bad n kind)
 
 -- what the line of this number asks for, if it holds a call
 unfoldable pub line_of : ℕ → ℕ → List ℕ → Result (Option Line) ScriptFault
 line_of clients n line =
-    if nat_lt LINES n then Err (Bad n TooManyLines)
+    if nat_lt LINES n then Err (ScriptFault.Bad n ScriptKind.TooManyLines)
     else if is_blank line then Ok None
     else line_with n (call_of clients (fields_of line))
 

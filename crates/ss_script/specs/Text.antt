@@ -1,33 +1,12 @@
--- The printed text of a history: one line an entry, `PLACE CLIENT LINE NAME = ANSWER`, with the number of the view after
--- the name where the call has one: a close, a put, a get, a has and a size. Places count from 1. Numbers are decimal; bytes are hexadecimal in lower case, and `-`
--- where there are none; a view that is never open is `-`.
+-- The printed text of a history, one line an entry, as docs/FORMATS.md has it.
 use Rattle.std.specs.Prelude.{ℕ, ◌+◌, ◌==◌, Bool, List, [], ◌∷◌, ◌++◌, if◌then◌else◌, Option, None, Some, codes, length}
 use Rattle.std.specs.List.{flat_map}
 use Rattle.std.specs.Fmt.{decimal}
 use Rattle.hex.specs.Hex.{encode_lower}
 use Rattle.ss_cbor.specs.declared.fault.CborKind.{CborKind}
-use Rattle.ss_cbor.specs.declared.fault.CborKind.TheVariants as kind
 use Rattle.ss_model.specs.declared.TheConstants.{NO_VIEW, COMPACTOR}
-use Rattle.ss_model.specs.declared.call.Call.{Call}
-use Rattle.ss_model.specs.declared.call.Call.TheVariants as call
-use Rattle.ss_model.specs.declared.call.Answer.{Answer}
-use Rattle.ss_model.specs.declared.call.Answer.TheVariants as answer
-use Rattle.ss_model.specs.declared.call.Entry.{Entry}
-use Rattle.ss_model.specs.declared.call.ViewReply.{ViewReply}
-use Rattle.ss_model.specs.declared.call.ViewReply.TheVariants as view
-use Rattle.ss_model.specs.declared.call.PutReply.{PutReply}
-use Rattle.ss_model.specs.declared.call.PutReply.TheVariants as put
-use Rattle.ss_model.specs.declared.call.GetReply.{GetReply}
-use Rattle.ss_model.specs.declared.call.GetReply.TheVariants as get
-use Rattle.ss_model.specs.declared.call.CloseReply.{CloseReply}
-use Rattle.ss_model.specs.declared.call.CloseReply.TheVariants as close
-use Rattle.ss_model.specs.declared.call.HasReply.{HasReply}
-use Rattle.ss_model.specs.declared.call.HasReply.TheVariants as has
-use Rattle.ss_model.specs.declared.call.SizeReply.{SizeReply}
-use Rattle.ss_model.specs.declared.call.SizeReply.TheVariants as size
-use Rattle.ss_model.specs.declared.call.HeadReply.{HeadReply}
-use Rattle.ss_model.specs.declared.call.HeadReply.TheVariants as head
-use Rattle.ss_model.specs.declared.call.Info.{Info}
+use Rattle.ss_model.specs.declared.call.{Call.Call, Answer.Answer, Entry.Entry, ViewReply.ViewReply, PutReply.PutReply, GetReply.GetReply, CloseReply.CloseReply, HasReply.HasReply, SizeReply.SizeReply, HeadReply.HeadReply, Info.Info}
+use Rattle.ss_records.specs.declared.record.{Config.Config, Mode.Mode}
 
 -- a number after a space
 abbrev pub number_text : ℕ → List ℕ
@@ -51,77 +30,77 @@ client_text c = if c == COMPACTOR then codes " c" else number_text c
 
 -- the name of the call, and its view
 abbrev pub call_text : Call → List ℕ
-call_text call.OpenView = codes " open"
-call_text (call.CloseView v) = codes " close" ++ view_text v
-call_text (call.Put v pairs) = codes " put" ++ view_text v
-call_text (call.Get v cid) = codes " get" ++ view_text v
-call_text (call.Has v cid) = codes " has" ++ view_text v
-call_text (call.Size v cid) = codes " size" ++ view_text v
-call_text (call.SetHead cids) = codes " head"
-call_text call.Info = codes " info"
+call_text Call.OpenView = codes " open"
+call_text (Call.CloseView v) = codes " close" ++ view_text v
+call_text (Call.Put v pairs) = codes " put" ++ view_text v
+call_text (Call.Get v cid) = codes " get" ++ view_text v
+call_text (Call.Has v cid) = codes " has" ++ view_text v
+call_text (Call.Size v cid) = codes " size" ++ view_text v
+call_text (Call.SetHead cids) = codes " head"
+call_text Call.Info = codes " info"
 
 abbrev pub view_reply_text : ViewReply → List ℕ
-view_reply_text (view.Opened n) = codes "opened" ++ numbers_text (n ∷ [])
-view_reply_text view.TooManyViews = codes "too-many-views"
+view_reply_text (ViewReply.Opened n) = codes "opened" ++ numbers_text (n ∷ [])
+view_reply_text ViewReply.TooManyViews = codes "too-many-views"
 
 abbrev pub close_reply_text : CloseReply → List ℕ
-close_reply_text close.Closed = codes "closed"
-close_reply_text close.BadView = codes "bad-view"
+close_reply_text CloseReply.Closed = codes "closed"
+close_reply_text CloseReply.BadView = codes "bad-view"
 
 -- the number of what is wrong with bytes that are no item
 abbrev pub item_fault_number : CborKind → ℕ
-item_fault_number kind.Truncated = 1
-item_fault_number kind.LongHead = 2
-item_fault_number kind.Indefinite = 3
-item_fault_number kind.OtherTag = 4
-item_fault_number kind.BadLink = 5
-item_fault_number kind.BadSimple = 6
-item_fault_number kind.Trailing = 7
-item_fault_number kind.CountTooLarge = 8
+item_fault_number CborKind.Truncated = 1
+item_fault_number CborKind.LongHead = 2
+item_fault_number CborKind.Indefinite = 3
+item_fault_number CborKind.OtherTag = 4
+item_fault_number CborKind.BadLink = 5
+item_fault_number CborKind.BadSimple = 6
+item_fault_number CborKind.Trailing = 7
+item_fault_number CborKind.CountTooLarge = 8
 
 abbrev pub put_reply_text : PutReply → List ℕ
-put_reply_text put.BadView = codes "bad-view"
-put_reply_text (put.TooMany n) = codes "too-many" ++ numbers_text (n ∷ [])
-put_reply_text (put.TooBig n) = codes "too-big" ++ numbers_text (n ∷ [])
-put_reply_text (put.TooLarge i) = codes "too-large" ++ numbers_text (i ∷ [])
-put_reply_text (put.UnknownHash i) = codes "unknown-hash" ++ numbers_text (i ∷ [])
-put_reply_text (put.Malformed i kind at) = codes "malformed" ++ numbers_text (i ∷ item_fault_number kind ∷ at ∷ [])
-put_reply_text (put.Mismatch i) = codes "mismatch" ++ numbers_text (i ∷ [])
-put_reply_text put.NoMemory = codes "no-memory"
-put_reply_text (put.TableFull rows) = codes "table-full" ++ numbers_text (rows ∷ [])
-put_reply_text (put.LogFull file need room) = codes "log-full" ++ numbers_text (file ∷ need ∷ room ∷ [])
-put_reply_text put.DiskFault = codes "fault"
-put_reply_text (put.Stored new) = codes "stored" ++ numbers_text (new ∷ [])
+put_reply_text PutReply.BadView = codes "bad-view"
+put_reply_text (PutReply.TooMany n) = codes "too-many" ++ numbers_text (n ∷ [])
+put_reply_text (PutReply.TooBig n) = codes "too-big" ++ numbers_text (n ∷ [])
+put_reply_text (PutReply.TooLarge i) = codes "too-large" ++ numbers_text (i ∷ [])
+put_reply_text (PutReply.UnknownHash i) = codes "unknown-hash" ++ numbers_text (i ∷ [])
+put_reply_text (PutReply.Malformed i kind at) = codes "malformed" ++ numbers_text (i ∷ item_fault_number kind ∷ at ∷ [])
+put_reply_text (PutReply.Mismatch i) = codes "mismatch" ++ numbers_text (i ∷ [])
+put_reply_text PutReply.NoMemory = codes "no-memory"
+put_reply_text (PutReply.TableFull rows) = codes "table-full" ++ numbers_text (rows ∷ [])
+put_reply_text (PutReply.LogFull file need room) = codes "log-full" ++ numbers_text (file ∷ need ∷ room ∷ [])
+put_reply_text PutReply.DiskFault = codes "fault"
+put_reply_text (PutReply.Stored new) = codes "stored" ++ numbers_text (new ∷ [])
 
 abbrev pub get_reply_text : GetReply → List ℕ
-get_reply_text get.BadView = codes "bad-view"
-get_reply_text get.NotFound = codes "not-found"
-get_reply_text get.NoMemory = codes "no-memory"
-get_reply_text get.DiskFault = codes "fault"
-get_reply_text (get.Found block) = codes "found " ++ bytes_text block
+get_reply_text GetReply.BadView = codes "bad-view"
+get_reply_text GetReply.NotFound = codes "not-found"
+get_reply_text GetReply.NoMemory = codes "no-memory"
+get_reply_text GetReply.DiskFault = codes "fault"
+get_reply_text (GetReply.Found block) = codes "found " ++ bytes_text block
 
 abbrev pub has_reply_text : HasReply → List ℕ
-has_reply_text has.BadView = codes "bad-view"
-has_reply_text has.No = codes "no"
-has_reply_text has.Yes = codes "yes"
+has_reply_text HasReply.BadView = codes "bad-view"
+has_reply_text HasReply.No = codes "no"
+has_reply_text HasReply.Yes = codes "yes"
 
 abbrev pub size_reply_text : SizeReply → List ℕ
-size_reply_text size.BadView = codes "bad-view"
-size_reply_text size.NotFound = codes "not-found"
-size_reply_text (size.Size n) = codes "size" ++ numbers_text (n ∷ [])
+size_reply_text SizeReply.BadView = codes "bad-view"
+size_reply_text SizeReply.NotFound = codes "not-found"
+size_reply_text (SizeReply.Size n) = codes "size" ++ numbers_text (n ∷ [])
 
 abbrev pub head_reply_text : HeadReply → List ℕ
-head_reply_text head.Empty = codes "tipset-empty"
-head_reply_text (head.TooMany n) = codes "tipset-too-many" ++ numbers_text (n ∷ [])
-head_reply_text (head.Repeated i) = codes "tipset-repeated" ++ numbers_text (i ∷ [])
-head_reply_text (head.Absent i) = codes "absent" ++ numbers_text (i ∷ [])
-head_reply_text head.NoMemory = codes "no-memory"
-head_reply_text (head.NotHeader i) = codes "tipset-not-header" ++ numbers_text (i ∷ [])
-head_reply_text (head.HeightDiffers i) = codes "tipset-height" ++ numbers_text (i ∷ [])
-head_reply_text (head.ParentsDiffer i) = codes "tipset-parents" ++ numbers_text (i ∷ [])
-head_reply_text (head.LogFull file need room) = codes "log-full" ++ numbers_text (file ∷ need ∷ room ∷ [])
-head_reply_text head.DiskFault = codes "fault"
-head_reply_text (head.Set height) = codes "head" ++ numbers_text (height ∷ [])
+head_reply_text HeadReply.Empty = codes "tipset-empty"
+head_reply_text (HeadReply.TooMany n) = codes "tipset-too-many" ++ numbers_text (n ∷ [])
+head_reply_text (HeadReply.Repeated i) = codes "tipset-repeated" ++ numbers_text (i ∷ [])
+head_reply_text (HeadReply.Absent i) = codes "absent" ++ numbers_text (i ∷ [])
+head_reply_text HeadReply.NoMemory = codes "no-memory"
+head_reply_text (HeadReply.NotHeader i) = codes "tipset-not-header" ++ numbers_text (i ∷ [])
+head_reply_text (HeadReply.HeightDiffers i) = codes "tipset-height" ++ numbers_text (i ∷ [])
+head_reply_text (HeadReply.ParentsDiffer i) = codes "tipset-parents" ++ numbers_text (i ∷ [])
+head_reply_text (HeadReply.LogFull file need room) = codes "log-full" ++ numbers_text (file ∷ need ∷ room ∷ [])
+head_reply_text HeadReply.DiskFault = codes "fault"
+head_reply_text (HeadReply.Set height) = codes "head" ++ numbers_text (height ∷ [])
 
 -- the height of a head, if one was set
 abbrev pub height_text : Option ℕ → List ℕ
@@ -137,15 +116,24 @@ abbrev pub info_text : Info → List ℕ
 info_text i =
     codes "info height" ++ (height_text i.height ++ (named_text (codes " base") i.base ++ (named_text (codes " ended") i.ended ++ (named_text (codes " hot") i.hot ++ (named_text (codes " kept") i.kept ++ (named_text (codes " views") i.views ++ (named_text (codes " running") (flag_number i.running) ++ named_text (codes " due") (flag_number i.due))))))))
 
+abbrev pub mode_text : Mode → List ℕ
+mode_text Mode.Discard = codes "discard"
+mode_text Mode.Universal = codes "universal"
+
+-- the settings of a store
+abbrev pub settings_text : Config → List ℕ
+settings_text c =
+    codes "mode " ++ (mode_text c.mode ++ (named_text (codes " depth") c.depth ++ (named_text (codes " threshold") c.threshold ++ (named_text (codes " batch") c.batch ++ (named_text (codes " rows") c.rows ++ named_text (codes " limit") c.limit)))))
+
 abbrev pub answer_text : Answer → List ℕ
-answer_text (answer.View r) = view_reply_text r
-answer_text (answer.Close r) = close_reply_text r
-answer_text (answer.Put r) = put_reply_text r
-answer_text (answer.Get r) = get_reply_text r
-answer_text (answer.Has r) = has_reply_text r
-answer_text (answer.Size r) = size_reply_text r
-answer_text (answer.Head r) = head_reply_text r
-answer_text (answer.Info r) = info_text r
+answer_text (Answer.View r) = view_reply_text r
+answer_text (Answer.Close r) = close_reply_text r
+answer_text (Answer.Put r) = put_reply_text r
+answer_text (Answer.Get r) = get_reply_text r
+answer_text (Answer.Has r) = has_reply_text r
+answer_text (Answer.Size r) = size_reply_text r
+answer_text (Answer.Head r) = head_reply_text r
+answer_text (Answer.Info r) = info_text r
 
 -- the line of the entry at this place
 unfoldable pub entry_text : ℕ → Entry → List ℕ

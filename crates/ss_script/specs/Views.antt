@@ -3,15 +3,9 @@
 -- answered so puts `NO_VIEW` in the place of the one that it closed. A client's lines change its own list alone.
 use Rattle.std.specs.Prelude.{ℕ, List, [], ◌∷◌, ◌++◌, Option, Some, None, replicate, slice_index_or, slice_set}
 use Rattle.ss_model.specs.declared.TheConstants.{NO_VIEW}
-use Rattle.ss_model.specs.declared.call.Call.{Call}
-use Rattle.ss_model.specs.declared.call.Call.TheVariants as call
-use Rattle.ss_model.specs.declared.call.Answer.{Answer}
-use Rattle.ss_model.specs.declared.call.Answer.TheVariants as answer
-use Rattle.ss_model.specs.declared.call.ViewReply.TheVariants as view
-use Rattle.ss_model.specs.declared.call.CloseReply.TheVariants as close
+use Rattle.ss_model.specs.declared.call.{Call.Call, Answer.Answer, ViewReply.ViewReply, CloseReply.CloseReply}
 use Rattle.ss_script.specs.declared.TheConstants.{CLIENTS}
 use Rattle.ss_script.specs.declared.call.ScriptCall.{ScriptCall}
-use Rattle.ss_script.specs.declared.call.ScriptCall.TheVariants as script
 use Rattle.ss_script.specs.declared.line.Line.{Line}
 
 -- the views of all clients before the first line, by the clients' numbers
@@ -28,25 +22,25 @@ view_of views k = slice_index_or views k NO_VIEW
 
 -- the call of a script line, its view resolved
 abbrev pub resolved : List ℕ → ScriptCall → Call
-resolved views script.OpenView = call.OpenView
-resolved views (script.CloseView k) = call.CloseView (view_of views k)
-resolved views (script.Put k pairs) = call.Put (view_of views k) pairs
-resolved views (script.Get k cid) = call.Get (view_of views k) cid
-resolved views (script.Has k cid) = call.Has (view_of views k) cid
-resolved views (script.Size k cid) = call.Size (view_of views k) cid
-resolved views (script.SetHead cids) = call.SetHead cids
-resolved views script.Info = call.Info
+resolved views ScriptCall.OpenView = Call.OpenView
+resolved views (ScriptCall.CloseView k) = Call.CloseView (view_of views k)
+resolved views (ScriptCall.Put k pairs) = Call.Put (view_of views k) pairs
+resolved views (ScriptCall.Get k cid) = Call.Get (view_of views k) cid
+resolved views (ScriptCall.Has k cid) = Call.Has (view_of views k) cid
+resolved views (ScriptCall.Size k cid) = Call.Size (view_of views k) cid
+resolved views (ScriptCall.SetHead cids) = Call.SetHead cids
+resolved views ScriptCall.Info = Call.Info
 
 -- the client's view that a call asks to close
 abbrev pub closing_view : ScriptCall → Option ℕ
-closing_view (script.CloseView k) = Some k
+closing_view (ScriptCall.CloseView k) = Some k
 closing_view _ = None
 
 -- the views of a client after an answer to a call that asked to close this view of its, if any
 abbrev pub views_after : List ℕ → Option ℕ → Answer → List ℕ
-views_after views closing (answer.View (view.Opened n)) = views ++ n ∷ []
-views_after views closing (answer.View view.TooManyViews) = views ++ NO_VIEW ∷ []
-views_after views (Some k) (answer.Close close.Closed) = slice_set views k NO_VIEW
+views_after views closing (Answer.View (ViewReply.Opened n)) = views ++ n ∷ []
+views_after views closing (Answer.View ViewReply.TooManyViews) = views ++ NO_VIEW ∷ []
+views_after views (Some k) (Answer.Close CloseReply.Closed) = slice_set views k NO_VIEW
 views_after views closing _ = views
 
 -- the views of all clients after such an answer to this client

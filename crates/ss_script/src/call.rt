@@ -4,7 +4,7 @@ ghost use Rattle.std.specs.Prelude.{◌≡◌, ◌<◌, ◌≤◌, ◌||◌, ◌
 ghost use Rattle.std.specs.Str.{bytes_eq};
 ghost use Rattle.ss_script.specs.Fault.{Reads};
 ghost use Rattle.ss_script.specs.Fields.{ended, fields_of, field_by, first_by};
-ghost use Rattle.ss_script.specs.Script.{pairs_of, cids_of, bare_of, close_of, put_of, view_and_cid_of, get_of, has_of, size_of, head_of, named_call, call_of};
+ghost use Rattle.ss_script.specs.Script.{pairs_of, cids_of, bare_of, close_of, put_of, view_and_cid_of, cid_call_of, head_of, named_call, call_of};
 ghost use Rattle.ss_script.specs.Views.{closing_view};
 
 use crate::fault::{LineFault, ScriptKind};
@@ -154,21 +154,21 @@ fn read_view_and_cid(mut fields: Pieces<'_>) -> Result<(u32, Cid), ScriptKind>
 }
 
 fn read_get(fields: Pieces<'_>) -> Result<ScriptCall, ScriptKind>
-    ensures { result ≡ get_of fields.entry }
+    ensures { result ≡ cid_call_of ScriptCall.Get fields.entry }
 {
     let (view, cid) = read_view_and_cid(fields)?;
     Ok(ScriptCall::Get { view, cid })
 }
 
 fn read_has(fields: Pieces<'_>) -> Result<ScriptCall, ScriptKind>
-    ensures { result ≡ has_of fields.entry }
+    ensures { result ≡ cid_call_of ScriptCall.Has fields.entry }
 {
     let (view, cid) = read_view_and_cid(fields)?;
     Ok(ScriptCall::Has { view, cid })
 }
 
 fn read_size(fields: Pieces<'_>) -> Result<ScriptCall, ScriptKind>
-    ensures { result ≡ size_of fields.entry }
+    ensures { result ≡ cid_call_of ScriptCall.Size fields.entry }
 {
     let (view, cid) = read_view_and_cid(fields)?;
     Ok(ScriptCall::Size { view, cid })

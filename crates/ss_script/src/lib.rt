@@ -27,7 +27,7 @@ pub use field::is_number;
 pub use line::{Line, Lines};
 pub use numbers::put_numbers;
 pub use script::read_script;
-pub use text::{PrintFault, write_entry};
+pub use text::{PrintFault, put_head_reply, put_info, put_settings, write_entry};
 pub use views::Views;
 
 /// The most lines of a script, those without a call included.

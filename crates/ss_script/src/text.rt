@@ -3,7 +3,7 @@
 ghost use Rattle.std.specs.Prelude.{◌≡◌, ◌≤◌, ◌++◌, IfErr, codes, length};
 ghost use Rattle.hex.specs.Hex.{encode_lower};
 ghost use Rattle.ss_script.specs.Writing.{Writes};
-ghost use Rattle.ss_script.specs.Text.{named_text, bytes_text, view_text, client_text, call_text, view_reply_text, close_reply_text, item_fault_number, put_reply_text, get_reply_text, has_reply_text, size_reply_text, head_reply_text, height_text, flag_number, info_text, answer_text, entry_text};
+ghost use Rattle.ss_script.specs.Text.{named_text, bytes_text, view_text, client_text, call_text, view_reply_text, close_reply_text, item_fault_number, put_reply_text, get_reply_text, has_reply_text, size_reply_text, head_reply_text, height_text, flag_number, info_text, mode_text, settings_text, answer_text, entry_text};
 
 use crate::numbers::{put_decimal, put_number, put_numbers};
 use ss_cbor::CborKind;
@@ -12,6 +12,7 @@ use ss_model::{
     Answer, COMPACTOR, Call, CloseReply, Entry, GetReply, HasReply, HeadReply, Info, NO_VIEW,
     PutReply, SizeReply, ViewReply,
 };
+use ss_records::{Config, Mode};
 use std::alloc::Global;
 
 // The bytes of a block whose digits are made and written at once.
@@ -191,7 +192,8 @@ fn put_size_reply<K: Sink>(sink: &mut K, reply: SizeReply) -> Result<(), Failed>
     }
 }
 
-fn put_head_reply<K: Sink>(sink: &mut K, reply: HeadReply) -> Result<(), Failed>
+/// Writes the answer to a `head`.
+pub fn put_head_reply<K: Sink>(sink: &mut K, reply: HeadReply) -> Result<(), Failed>
     ensures { Writes K.Sink sink.old sink.new result (head_reply_text reply) }
 {
     match reply {
@@ -211,7 +213,8 @@ fn put_head_reply<K: Sink>(sink: &mut K, reply: HeadReply) -> Result<(), Failed>
     }
 }
 
-fn put_info<K: Sink>(sink: &mut K, info: &Info) -> Result<(), Failed>
+/// Writes what a store counts: the answer to an `info`.
+pub fn put_info<K: Sink>(sink: &mut K, info: &Info) -> Result<(), Failed>
     ensures { Writes K.Sink sink.old sink.new result (info_text info.now) }
 {
     sink.put(b"info height")?;
@@ -223,6 +226,28 @@ fn put_info<K: Sink>(sink: &mut K, info: &Info) -> Result<(), Failed>
     put_named(sink, b" views", u64::from(info.views))?;
     put_named(sink, b" running", flag_number(info.running))?;
     put_named(sink, b" due", flag_number(info.due))
+}
+
+/// Writes the settings of a store.
+pub fn put_settings<K: Sink>(sink: &mut K, config: &Config) -> Result<(), Failed>
+    ensures { Writes K.Sink sink.old sink.new result (settings_text config.now) }
+{
+    sink.put(b"mode ")?;
+    put_mode(sink, config.mode)?;
+    put_named(sink, b" depth", config.depth)?;
+    put_named(sink, b" threshold", config.threshold)?;
+    put_named(sink, b" batch", u64::from(config.batch))?;
+    put_named(sink, b" rows", u64::from(config.rows))?;
+    put_named(sink, b" limit", config.limit)
+}
+
+fn put_mode<K: Sink>(sink: &mut K, mode: Mode) -> Result<(), Failed>
+    ensures { Writes K.Sink sink.old sink.new result (mode_text mode) }
+{
+    match mode {
+        Mode::Discard => sink.put(b"discard"),
+        Mode::Universal => sink.put(b"universal"),
+    }
 }
 
 fn put_height<K: Sink>(sink: &mut K, height: Option<u64>) -> Result<(), Failed>

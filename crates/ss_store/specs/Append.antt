@@ -7,7 +7,6 @@ use Rattle.ss_gatelog.specs.GateLog.{Log, IsSure, Stands, HasEither}
 use Rattle.ss_records.specs.declared.record.Record.{Record}
 use Rattle.ss_records.specs.Record.{spelling}
 use Rattle.ss_store.specs.declared.fault.StoreFault.{StoreFault}
-use Rattle.ss_store.specs.declared.fault.StoreFault.TheVariants.{NoMemory, DiskFault, LogFull, Damaged}
 
 -- the bodies that spell these records
 abbrev pub bodies : List Record → List (List ℕ)
@@ -25,11 +24,11 @@ pub record KeepsAppended {D : Type 0} (disk : Ghosts D) (was now : D) (old new :
 pub record Appends {D : Type 0} (disk : Ghosts D) (was now : D) (old new : Log) (need : ℕ) (result : Result (Unit {0}) StoreFault) : Type 0 where
   pub ok : OnOk result (new ≡ record old { end = old.end + need })
   pub err : OnErr result (new ≡ record old { unsure = new.unsure })
-  pub untouched : (e : StoreFault) → result ≡ Err e → (e ≡ DiskFault) ⊎ ((new ≡ old) × (now ≡ was))
-  pub full : (file wants room : ℕ) → result ≡ Err (LogFull file wants room) → (file ≡ old.file) × (wants ≡ need) × (room ≡ old.limit - 1 - old.end) × (room < need)
-  pub roomy : IsOk result ⊎ (result ≡ Err DiskFault) → need ≤ old.limit - 1 - old.end
-  pub not_damaged : (file at : ℕ) → result ≡ Err (Damaged file at) → ⊥
-  pub has_memory : result ≡ Err NoMemory → ⊥
-  pub counts : CountsFault DiskFault (disk.faults was) (disk.faults now) result
+  pub untouched : (e : StoreFault) → result ≡ Err e → (e ≡ StoreFault.DiskFault) ⊎ ((new ≡ old) × (now ≡ was))
+  pub full : (file wants room : ℕ) → result ≡ Err (StoreFault.LogFull file wants room) → (file ≡ old.file) × (wants ≡ need) × (room ≡ old.limit - 1 - old.end) × (room < need)
+  pub roomy : IsOk result ⊎ (result ≡ Err StoreFault.DiskFault) → need ≤ old.limit - 1 - old.end
+  pub not_damaged : (file at : ℕ) → result ≡ Err (StoreFault.Damaged file at) → ⊥
+  pub has_memory : result ≡ Err StoreFault.NoMemory → ⊥
+  pub counts : CountsFault StoreFault.DiskFault (disk.faults was) (disk.faults now) result
   pub known : new.end + 1 ≤ disk.known now new.file
   pub touches : Touches disk old.file was now

@@ -10,7 +10,7 @@ use Rattle.ss_chain.proofs.Shorter.{IsShorter, inside-shorter, Contains-shorter}
 use Rattle.ss_marks.specs.declared.colour.Colour.{Colour}
 use Rattle.ss_marks.specs.declared.colour.Colour.TheVariants.{White}
 use Rattle.ss_marks.specs.Marks.{Mark, MarkTable, mark_of, colour_of}
-use Rattle.ss_txn.specs.Protected.{none_kept, IsNotWhite, Protected, IsShaded, ByCases, shaded, identity, neither}
+use Rattle.ss_txn.specs.Marked.{none_kept, IsNotWhite, Protected, IsShaded, ByCases, shaded, identity, neither}
 use Rattle.ss_txn.proofs.Paths.{first-Contains, reach-itself, reach-on, reach-stored, reach-identity, leads-identity}
 use Rattle.ss_txn.proofs.Shading.{colour_in}
 

@@ -8,7 +8,7 @@ use Rattle.ss_chain.specs.Fetch.{is_identity, fetched}
 use Rattle.ss_chain.specs.Follows.{followed}
 use Rattle.ss_chain.specs.Reach.{LeadsTo, Reach}
 use Rattle.ss_chain.proofs.Reached.{reach_each, reach-root, reach-next}
-use Rattle.ss_txn.specs.Protected.{none_kept}
+use Rattle.ss_txn.specs.Marked.{none_kept}
 
 -- ---- members of a list
 

@@ -11,8 +11,7 @@ use Rattle.ss_chain.proofs.Reached.{reach_each, reach-next}
 use Rattle.ss_marks.specs.declared.colour.Colour.{Colour}
 use Rattle.ss_marks.specs.declared.colour.Colour.TheVariants.{White, Grey, Out, Black}
 use Rattle.ss_marks.specs.Marks.{Mark, MarkTable, mark_of, row_of, colour_of}
-use Rattle.ss_txn.specs.Protected.{none_kept, IsNotWhite, Protected}
-use Rattle.ss_txn.specs.Marked.{Marked, IsQuiet}
+use Rattle.ss_txn.specs.Marked.{none_kept, IsNotWhite, Protected, Marked, IsQuiet}
 use Rattle.ss_txn.proofs.Paths.{reach-itself, reach-on, identity-leads, leads-identity}
 
 stored-fetched : (kept : Kept) (cid block : List ℕ) (b : Bool) → is_identity cid ≡ b → b ≡ false → fetched kept cid ≡ Some block → finite_map.contains_key kept cid ≡ true

@@ -8,8 +8,7 @@ use Rattle.ss_marks.proofs.Using.{coloured_here}
 use Rattle.ss_txn.specs.declared.scan_reply.ScanReply.{ScanReply}
 use Rattle.ss_txn.specs.declared.scan_reply.ScanReply.TheVariants.{Scanned, NothingGrey, Fault, NoMemory}
 use Rattle.ss_txn.specs.Marked.{Marked}
-use Rattle.ss_txn.specs.Changes.{KeepsRows, Scans, ScanDid}
-use Rattle.ss_txn.specs.Unread.{ProtectsFrom}
+use Rattle.ss_txn.specs.Changes.{KeepsRows, Scans, ScanDid, ProtectsFrom}
 use Rattle.ss_txn.proofs.Marking.{row_in, blackens_marked, blackens_rows}
 use Rattle.ss_txn.proofs.Blackening.{blackens_popped, popped_stays, put_back_same, coloured_by}
 

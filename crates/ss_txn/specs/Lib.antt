@@ -1,4 +1,2 @@
-pub mod Protected
 pub mod Marked
 pub mod Changes
-pub mod Unread

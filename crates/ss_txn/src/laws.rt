@@ -7,8 +7,7 @@ ghost use Rattle.ss_chain.specs.Fetch.{is_identity};
 ghost use Rattle.ss_chain.specs.Reach.{Reach};
 ghost use Rattle.ss_marks.specs.declared.colour.Colour.TheVariants as colour;
 ghost use Rattle.ss_marks.specs.Marks.{MarkTable, mark_of, colour_of};
-ghost use Rattle.ss_txn.specs.Protected.{Protected, ByCases};
-ghost use Rattle.ss_txn.specs.Marked.{Marked, IsQuiet};
+ghost use Rattle.ss_txn.specs.Marked.{Protected, ByCases, Marked, IsQuiet};
 ghost use Rattle.ss_txn.specs.Changes.{Protects};
 
 /// What is white once no row is grey or out is not reached from the roots: it may be discarded.

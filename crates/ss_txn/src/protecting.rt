@@ -1,5 +1,5 @@
 //! What is shaded so that CIDs are protected.
-ghost use Rattle.std.specs.Prelude.{◌≡◌, [], ◌∷◌};
+ghost use Rattle.std.specs.Prelude.{[], ◌∷◌};
 ghost use Rattle.ss_chain.specs.Follows.{followed};
 ghost use Rattle.ss_txn.specs.Changes.{Shades, Protects};
 

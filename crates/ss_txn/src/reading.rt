@@ -2,7 +2,7 @@
 ghost use Rattle.std.specs.Prelude.{◌≡◌, ◌≢◌, ◌==◌, true, OnOk, OnErr};
 ghost use Rattle.ss_cid.specs.Cid.{codec_of};
 ghost use Rattle.ss_chain.specs.Fetch.{is_known};
-ghost use Rattle.ss_txn.specs.Unread.{ProtectsFrom, UnreadCause};
+ghost use Rattle.ss_txn.specs.Changes.{ProtectsFrom, UnreadCause};
 
 use crate::protecting::protect_followed;
 use ss_chain::{Blocks, Fetched};

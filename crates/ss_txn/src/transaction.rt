@@ -2,9 +2,8 @@
 ghost use Rattle.std.specs.Prelude.{◌≡◌, ◌≢◌, ◌↔◌, ℕ, List, [], ◌∷◌, ◌++◌, Some, IsTrue};
 ghost use Rattle.ss_cid.specs.Cid.{codec_of};
 ghost use Rattle.ss_cid.specs.Maps.{Kept};
-ghost use Rattle.ss_chain.specs.Fetch.{Rose};
 ghost use Rattle.ss_marks.specs.declared.colour.Colour.TheVariants as colour;
-ghost use Rattle.ss_marks.specs.Marks.{row_of, colour_of, IsColoured, NoneIs};
+ghost use Rattle.ss_marks.specs.Marks.{row_of, colour_of, IsColoured};
 ghost use Rattle.ss_txn.specs.Marked.{HasRows, HasRowsOf, Marked, IsQuiet};
 ghost use Rattle.ss_txn.specs.Changes.{KeepsRows, Protects, Begins, Blackens, AreFollowed, ScanDid, ScanCause};
 

@@ -16,6 +16,7 @@ impl<D: Disk> SplitCore<D> {
     ghost use Rattle.ss_model.specs.declared.call.Call.TheVariants as call_kind;
     ghost use Rattle.ss_model.specs.declared.call.Answer.TheVariants as answer;
     ghost use Rattle.ss_core.specs.Calls.{Steps, Makes};
+    ghost use Rattle.ss_core.specs.Gets.{len_of};
     ghost use Rattle.ss_core.specs.StandsFor.{StandsFor};
 
     /// Closes a view: `BadView` exactly where it is not open. Its number may be given again.
@@ -89,14 +90,16 @@ impl<D: Disk> SplitCore<D> {
 
     /// How many bytes are kept under a CID; None exactly where it is not kept. It is no call of a client.
     pub fn kept_size(&self, cid: &Cid) -> Option<u32>
-        ensures { (s : State) (doubt : Option Record) → StandsFor self.now s doubt → result ≡ option_map (λ block. length block) (finite_map.get s.kept cid.now) }
+        ensures place { result ≡ option_map (λ place. place.len) (finite_map.get self.now.hot.places cid.now) }
+        ensures block { (s : State) (doubt : Option Record) → StandsFor self.now s doubt → result ≡ option_map (λ block. length block) (finite_map.get s.kept cid.now) }
     {
         self.kept_len(cid)
     }
 
     // How many bytes a CID's block has, if it stands for one.
     pub(super) fn block_len(&self, cid: &Cid) -> Option<u32>
-        ensures { (s : State) (doubt : Option Record) → StandsFor self.now s doubt → result ≡ option_map length (fetched s.kept cid.now) }
+        ensures len { result ≡ len_of self.now.hot cid.now }
+        ensures block { (s : State) (doubt : Option Record) → StandsFor self.now s doubt → result ≡ option_map length (fetched s.kept cid.now) }
     {
         match cid.identity() {
             Some(digest) => {

@@ -1,6 +1,6 @@
 //! Puts.
 
-ghost use Rattle.std.specs.Prelude.{◌≡◌, ◌+◌, ◌-◌, ◌^◌, ◌≤◌, ℕ, List, [], length, min, max, Option, IsTrue, IfOk, MatchResult};
+ghost use Rattle.std.specs.Prelude.{◌≡◌, ◌+◌, ◌-◌, ◌^◌, ◌≤◌, ℕ, List, [], length, min, max, Option, IsTrue, IfOk, IfErr, MatchResult};
 ghost use Rattle.ss_records.specs.declared.record.Record.{Record};
 
 use super::{HOT, SplitCore};
@@ -22,8 +22,7 @@ impl<D: Disk> SplitCore<D> {
     ghost use Rattle.ss_model.specs.declared.call.Call.TheVariants as call_kind;
     ghost use Rattle.ss_model.specs.declared.call.Answer.TheVariants as answer;
     ghost use Rattle.ss_core.specs.Calls.{Steps, Makes};
-    ghost use Rattle.ss_core.specs.Fresh.{IsLooked};
-    ghost use Rattle.ss_core.specs.Puts.{IsReady, IsRefusal};
+    ghost use Rattle.ss_core.specs.Puts.{IsLooked, IsReady, IsRefusal, IsDueTo, held_put_bytes};
     ghost use Rattle.ss_core.specs.StandsFor.{StandsFor};
 
     /// Stores the blocks of a parcel that are new, by one record. A log in doubt is settled first.
@@ -34,6 +33,8 @@ impl<D: Disk> SplitCore<D> {
     pub fn put(&mut self, alloc: Global, view: u32, parcel: &Parcel) -> PutReply
         ensures told { IsTrue D.told → (s : State) (doubt : Option Record) → StandsFor self.old s doubt → Steps self.old self.new s doubt (call_kind.Put view parcel.now) (answer.Put result) }
         ensures made { Makes self.old self.new (call_kind.Put view parcel.now) (answer.Put result) }
+        ensures due { IsDueTo self.old self.new view parcel.now result }
+        ensures views { self.new.views ≡ self.old.views }
     {
         let looked = match self.look_or_refuse(view, parcel) {
             Ok(looked) => looked,
@@ -51,6 +52,8 @@ impl<D: Disk> SplitCore<D> {
     fn put_nothing(&mut self) -> PutReply
         ensures told { IsTrue D.told → (s : State) (doubt : Option Record) (view : ℕ) (pairs : List (List ℕ × List ℕ)) → StandsFor self.old s doubt → IsPassed s view pairs → new_pairs s.hot pairs ≡ [] → Steps self.old self.new s doubt (call_kind.Put view pairs) (answer.Put result) }
         ensures made { (view : ℕ) (pairs : List (List ℕ × List ℕ)) → Makes self.old self.new (call_kind.Put view pairs) (answer.Put result) }
+        ensures due { (view : ℕ) (pairs : List (List ℕ × List ℕ)) → IsDueTo self.old self.new view pairs result }
+        ensures views { self.new.views ≡ self.old.views }
     {
         match self.settle() {
             Ok(()) => PutReply::Stored { new: 0 },
@@ -66,6 +69,8 @@ impl<D: Disk> SplitCore<D> {
         requires body { body ≡ body_bytes fresh.now }
         ensures told { IsTrue D.told → (s : State) (doubt : Option Record) (view : ℕ) (pairs : List (List ℕ × List ℕ)) → StandsFor self.old s doubt → IsPassed s view pairs → new_pairs s.hot pairs ≡ fresh.now → Steps self.old self.new s doubt (call_kind.Put view pairs) (answer.Put result) }
         ensures made { (view : ℕ) (pairs : List (List ℕ × List ℕ)) → Makes self.old self.new (call_kind.Put view pairs) (answer.Put result) }
+        ensures due { (view : ℕ) (pairs : List (List ℕ × List ℕ)) → IsDueTo self.old self.new view pairs result }
+        ensures views { self.new.views ≡ self.old.views }
     {
         let rows = self.kept_count() + fresh.len() as u64;
         if rows > u64::from(self.hot.config().rows) {
@@ -92,6 +97,7 @@ impl<D: Disk> SplitCore<D> {
     fn look_or_refuse(&self, view: u32, parcel: &Parcel) -> Result<Looked, PutReply>
         ensures decides { (s : State) (doubt : Option Record) → StandsFor self.now s doubt → MatchResult result (λ _. IsPassed s view parcel.now) (IsPutRefusal s view parcel.now) }
         ensures ready { MatchResult result (λ _. IsReady parcel.now) IsRefusal }
+        ensures due { IfErr result (IsDueTo self.now self.now view parcel.now) }
         ensures looked { IfOk result (IsLooked self.now.hot parcel.now) }
     {
         if !self.views.contains(view) {
@@ -116,6 +122,7 @@ impl<D: Disk> SplitCore<D> {
     fn look(&self, parcel: &Parcel) -> Looked
         requires { length parcel.now ≤ PUT_BLOCKS }
         ensures least { min (body_bytes parcel.now) (2 ^ 64 - 1) ≤ result.bytes }
+        ensures held { result.bytes ≡ min (held_put_bytes self.now.hot.places parcel.now) (2 ^ 64 - 1) }
         ensures all { (s : State) (doubt : Option Record) → StandsFor self.now s doubt → result.bytes ≡ min (put_bytes s.kept parcel.now) (2 ^ 64 - 1) }
         ensures looked { IsLooked self.now.hot parcel.now result }
     {

@@ -1,7 +1,7 @@
 // What a crash leaves, picked by a number.
 ghost use Rattle.std.specs.Prelude.{◌≡◌, ◌≤◌, ◌<◌, ◌++◌, ℕ, List, IsTrue, IfOk, OnOk, drop, length};
 ghost use Rattle.ss_disk.specs.declared.memory.call.DeviceCall.{DeviceCall};
-ghost use Rattle.ss_disk.specs.Memory.{contents, story, read_after, MayLeave, Image, fits, syncs, unsynced, placed, replayed, Tears};
+ghost use Rattle.ss_disk.specs.Memory.{contents, story, read_after, MayLeave, fits, syncs, unsynced, placed, replayed, Tears};
 ghost use Rattle.ss_disk.specs.Disk.{Torn};
 
 use super::bytes::{cut_short, overwrite};

@@ -72,8 +72,7 @@ struct Opening {
 
 impl Opening {
     ghost use Rattle.ss_hot.specs.Store.{Keeps, IsKnown};
-    ghost use Rattle.ss_hot.specs.Walk.{AreBefore, IsRead, IsMisfit};
-    ghost use Rattle.ss_hot.specs.Opening.{IsUnderWay, HasRead, OpensSame, Passes};
+    ghost use Rattle.ss_hot.specs.Opening.{AreBefore, IsRead, IsMisfit, IsUnderWay, HasRead, OpensSame, Passes};
 
     /// Before the first record. All of the file may be used, up to the largest limit that settings may set.
     fn new<D: Disk>(alloc: Global, disk: &mut D, file: u8) -> Result<Opening, StoreFault>

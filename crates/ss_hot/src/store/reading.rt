@@ -1,4 +1,4 @@
-ghost use Rattle.std.specs.Prelude.{◌≡◌, ◌⊎◌, ◌^◌, ◌<◌, List, IsTrue, length, Err, Ok, None, IfOk, option_map, is_some};
+ghost use Rattle.std.specs.Prelude.{◌≡◌, ◌⊎◌, ◌^◌, ◌<◌, ℕ, List, IsTrue, length, Err, Ok, None, Some, IfOk, IfSome, OnOk, option_map, is_some};
 ghost use Rattle.std.specs.FinMap as finite_map;
 ghost use Rattle.ss_disk.specs.Disk.{Same};
 ghost use Rattle.ss_disk.specs.Calls.{Goes};
@@ -9,14 +9,14 @@ ghost use Rattle.ss_hot.specs.Half.{hot_blocks};
 use super::HotStore;
 use ss_cid::{Bytes, Cid};
 use ss_disk::Disk;
-use ss_store::StoreFault;
+use ss_store::{Place, StoreFault};
 use std::alloc::Global;
 
 impl HotStore {
     ghost use Rattle.ss_store.specs.Index.{next_key};
     ghost use Rattle.ss_store.specs.declared.fault.StoreFault.{StoreFault};
     ghost use Rattle.ss_store.specs.declared.fault.StoreFault.TheVariants as fault;
-    ghost use Rattle.ss_hot.specs.Store.{Tells, Keeps, IsKnown};
+    ghost use Rattle.ss_hot.specs.Store.{Tells, Keeps, IsKnown, LiesIn};
 
     /// The bytes of a hot block, by one read; of one that is not hot None, with no call of the disk. First `NoMemory`, with no
     /// call of the disk either, then `DiskFault`.
@@ -35,14 +35,44 @@ impl HotStore {
         ensures counts { CountsFault fault.DiskFault (D.faults disk.old) (D.faults disk.new) result }
         ensures goes { Goes D.Disk Same disk.old disk.new }
     {
-        let Some(place) = self.index.get(cid) else {
+        let Some(place) = self.place(cid) else {
             return Ok(None);
         };
         let Ok(mut block) = vec![in alloc; 0u8; place.len as usize] else {
             return Err(StoreFault::NoMemory);
         };
-        match self.log.read_at(disk, place.at, block.as_mut_slice()) {
+        match self.read(disk, place, block.as_mut_slice()) {
             Ok(()) => Ok(Some(Bytes::from(block))),
+            Err(fault) => Err(fault),
+        }
+    }
+
+    /// Where the bytes of a hot block lie.
+    pub fn place(&self, cid: &Cid) -> Option<Place>
+        ensures value { result ≡ finite_map.get self.now.places cid.now }
+        ensures within { IfSome result (LiesIn self.now.log) }
+    {
+        self.index.get(cid)
+    }
+
+    /// The bytes of a block from its place, by one read. After `DiskFault` the buffer's bytes are arbitrary.
+    pub fn read<D: Disk>(
+        &self,
+        disk: &mut D,
+        place: Place,
+        block: &mut [u8],
+    ) -> Result<(), StoreFault>
+        requires known { IsKnown D.Disk disk.old self.now }
+        requires within { LiesIn self.now.log place }
+        requires len { length block.old ≡ place.len }
+        ensures block { (cid : List ℕ) (records others : List Record) → IsTrue D.told → Keeps D.Disk disk.old self.now records others → finite_map.get self.now.places cid ≡ Some place → OnOk result (finite_map.get (hot_blocks records) cid ≡ Some block.new) }
+        ensures len { length block.new ≡ length block.old }
+        ensures errors { (e : StoreFault) → result ≡ Err e → e ≡ fault.DiskFault }
+        ensures counts { CountsFault fault.DiskFault (D.faults disk.old) (D.faults disk.new) result }
+        ensures goes { Goes D.Disk Same disk.old disk.new }
+    {
+        match self.log.read_at(disk, place.at, block) {
+            Ok(()) => Ok(()),
             Err(fault) => Err(StoreFault::of_log(place.file, fault)),
         }
     }
@@ -60,7 +90,7 @@ impl HotStore {
         ensures value { result ≡ option_map (λ place. place.len) (finite_map.get self.now.places cid.now) }
         ensures block { (records : List Record) → Tells self.now records → result ≡ option_map (λ block. length block) (finite_map.get (hot_blocks records) cid.now) }
     {
-        let place = self.index.get(cid)?;
+        let place = self.place(cid)?;
         Some(place.len)
     }
 

@@ -22,7 +22,7 @@ pub(super) struct Walk {
 }
 
 impl Walk {
-    ghost use Rattle.ss_hot.specs.Walk.{AreBefore, Gathers, Enters, IsRead, IsMisfit};
+    ghost use Rattle.ss_hot.specs.Opening.{AreBefore, Gathers, Enters, IsRead, IsMisfit};
 
     /// Before the first record.
     pub(super) fn new(alloc: Global) -> Walk

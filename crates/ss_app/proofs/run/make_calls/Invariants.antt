@@ -1,7 +1,8 @@
 use Rattle.std.proofs.Common.{◌≡◌, ◌+◌, List, [], ◌++◌, length}
 use Rattle.std.specs.Vec.Iter.{into_iter_items}
 use Rattle.ss_script.specs.declared.line.Line.{Line}
-use Rattle.ss_app.specs.Progress.{Progress, Story}
+use Rattle.ss_app.specs.Progress.{Progress}
+use Rattle.ss_history.specs.Story.{Story}
 use Rattle.ss_app.specs.World.{output}
 use Rattle.ss_app.proofs.run.make_calls.Given as goal
 

@@ -1,5 +1,5 @@
 use Rattle.std.proofs.Common.{List, ℕ, subst}
-use Rattle.ss_app.specs.Outcome.{Says}
+use Rattle.ss_app.specs.World.{Says}
 use Rattle.ss_app.specs.World.{output}
 use Rattle.ss_app.proofs.Sayings.{says_text}
 use Rattle.ss_app.proofs.run.say.Goals as goal

@@ -1,6 +1,6 @@
 use Rattle.std.proofs.Common.{refl}
 use Rattle.ss_app.proofs.Endings.{read_refused, store_refused, traced, traced_refused}
-use Rattle.ss_app.proofs.Steps.{begun_story}
+use Rattle.ss_history.proofs.Stories.{begun_story}
 use Rattle.ss_app.proofs.run.trace.Goals as goal
 
 pub returns-in-Err : goal.returns-in-Err

@@ -10,7 +10,7 @@ use Rattle.std.proofs.lemmas.Option.{slice_get_within}
 use Rattle.ss_cid.specs.Cid.{identity_of}
 use Rattle.ss_store.specs.Index.{CidMap}
 use Rattle.ss_store.specs.declared.place.Place.{Place}
-use Rattle.ss_core.specs.Fresh.{AreNoted, cids_of}
+use Rattle.ss_core.specs.Puts.{AreNoted, cids_of}
 use Rattle.ss_core.proofs.NewPairs.{none_walked, told, or_true, noted_is, identity_told, was_there, old_walked, new_walked, all_walked}
 use Rattle.ss_core.proofs.fresh.new_places.Goals as goal
 use Rattle.ss_core.proofs.fresh.new_places.Goals.{then-branch+in_ok-push, else-branch, then-kept-i-via-then-kept-i, then-kept-i-via-else-kept-i+then-is_some}

@@ -1,7 +1,7 @@
 use Rattle.std.proofs.Common.{◌≡◌, ◌-◌, ◌<◌, IsTrue}
 use Rattle.ss_disk.specs.Disk.{Same}
 use Rattle.ss_disk.specs.Calls.{Goes}
-use Rattle.ss_gatelog.specs.Skim.{Walked}
+use Rattle.ss_gatelog.specs.Gate.{Walked}
 use Rattle.ss_gatelog.proofs.skim.skim.Given as goal
 
 abbrev pub invariant-loop-piece : goal.invariant-loop-piece

@@ -1,6 +1,6 @@
 use Rattle.std.proofs.Common.{◌≡◌, ◌+◌, ◌-◌, ◌<◌, ℕ, List, length}
 use Rattle.std.specs.Prelude.{slice_range}
-use Rattle.ss_gatelog.specs.Skim.{Walked}
+use Rattle.ss_gatelog.specs.Gate.{Walked}
 use Rattle.ss_gatelog.proofs.skim.skim_piece.Given as goal
 
 abbrev pub invariant-loop-offset : goal.invariant-loop-offset

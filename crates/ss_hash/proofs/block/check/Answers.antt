@@ -1,15 +1,9 @@
-use Rattle.std.proofs.Common.{◌≡◌, ℕ, Err, sym, ap, subst, ◌∙◌}
-use Rattle.ss_cid.specs.Cid.{digest_of}
-use Rattle.ss_hash.specs.Digest.{PartAt}
-use Rattle.ss_hash.specs.declared.fault.HashFault.TheVariants.{NotIdentity}
-use Rattle.ss_hash.proofs.Digests.{part_unique}
+use Rattle.ss_hash.specs.declared.fault.HashFault.TheVariants.{UnknownHash, NotIdentity}
+use Rattle.ss_hash.proofs.Digests.{carried}
 use Rattle.ss_hash.proofs.block.check.Goals as goal
 
-pub returns-in-Some-clause-not_identity : goal.returns-in-Some-clause-not_identity
-returns-in-Some-clause-not_identity c = λ at.
-    let parts : PartAt (digest_of c.args.cid.now) c.args.bytes.now c.in-Some.at = rw (← c.digest-digest.ensures) c.in-Some.ensures.place in (
-      λ e.
-          let same : c.in-Some.at ≡ at = cc in
-          (sym c.hash_code.ensures ∙ c.in-Identity.is, subst (PartAt (digest_of c.args.cid.now) c.args.bytes.now) same parts),
-      λ other. ap (λ (i : ℕ). Err (NotIdentity i)) (part_unique (digest_of c.args.cid.now) c.args.bytes.now c.in-Some.at at parts other.1),
-    )
+pub returns-in-Err-clause-unknown : goal.returns-in-Err-clause-unknown
+returns-in-Err-clause-unknown c = λ code. carried c.in-Err.fault (UnknownHash code) (c.in-Err.ensures.unknown code)
+
+pub returns-in-Err-clause-not_identity : goal.returns-in-Err-clause-not_identity
+returns-in-Err-clause-not_identity c = λ at. carried c.in-Err.fault (NotIdentity at) (c.in-Err.ensures.not_identity at)

@@ -1,7 +1,8 @@
 use Rattle.std.proofs.Common.{ap, ◌∙◌}
 use Rattle.ss_script.specs.declared.line.Line.{Line}
 use Rattle.ss_script.specs.Views.{closing_view}
-use Rattle.ss_app.proofs.Steps.{stepped, story_more, recorded_is}
+use Rattle.ss_app.proofs.Steps.{stepped, recorded_is}
+use Rattle.ss_history.proofs.Stories.{story_more}
 use Rattle.ss_app.proofs.run.Session.step.Goals as goal
 
 pub returns-clause-step : goal.returns-clause-step

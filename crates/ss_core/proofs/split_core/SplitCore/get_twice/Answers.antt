@@ -1,18 +1,17 @@
-use Rattle.std.proofs.Common.{subst}
-use Rattle.ss_model.specs.declared.call.Call.TheVariants as call
-use Rattle.ss_model.specs.declared.call.Answer.TheVariants as answer
-use Rattle.ss_model.specs.declared.call.GetReply.{GetReply}
-use Rattle.ss_core.specs.Calls.{Steps, Makes}
-use Rattle.ss_core.proofs.Gets as gets
-use Rattle.ss_core.proofs.Made as made
+use Rattle.std.proofs.Common.{refl, sym, ap, ◌∙◌}
+use Rattle.std.specs.FinSet as finite_set
+use Rattle.ss_core.proofs.Asked.{some_len, none_len}
+use Rattle.ss_core.proofs.Gets.{bad_view, not_found, no_memory}
 use Rattle.ss_core.proofs.split_core.SplitCore.get_twice.Goals as goal
 
-pub returns-in-Err-clause-told : goal.returns-in-Err-clause-told
-returns-in-Err-clause-told g c = λ told s doubt stands.
-    gets.found_wanting g.D.Disk c.args.self.now c.get.new.self s doubt c.args.view c.args.cid.now c.in-Found.block
-    (subst (λ (r : GetReply). Steps c.args.self.now c.get.new.self s doubt (call.Get c.args.view c.args.cid.now) (answer.Get r)) c.in-Found.is (c.get.ensures.told told s doubt stands))
+pub returns-then-not-contains-clause-told : goal.returns-then-not-contains-clause-told
+returns-then-not-contains-clause-told g c = λ told s doubt stands.
+    bad_view g.D.Disk s doubt c.args.view c.args.cid.now c.args.self.now c.args.self.now refl refl refl stands (ap (λ views. finite_set.contains views c.args.view) stands.views ∙ sym c.if-not-contains.ensures)
 
-pub returns-in-Err-clause-made : goal.returns-in-Err-clause-made
-returns-in-Err-clause-made g c =
-    made.found_wanting g.D.Disk c.args.self.now c.get.new.self c.args.view c.args.cid.now c.in-Found.block c.get.ensures.reads
-    (subst (λ (r : GetReply). Makes c.args.self.now c.get.new.self (call.Get c.args.view c.args.cid.now) (answer.Get r)) c.in-Found.is c.get.ensures.made)
+pub returns-in_default-clause-told : goal.returns-in_default-clause-told
+returns-in_default-clause-told g c = λ told s doubt stands.
+    not_found g.D.Disk s doubt c.args.view c.args.cid.now c.args.self.now c.args.self.now refl refl refl stands (ap (λ views. finite_set.contains views c.args.view) stands.views ∙ sym c.if-not-contains.ensures) (none_len _ (c.in_default.ensures.block s doubt stands))
+
+pub returns-in_default-vec-clause-told : goal.returns-in_default-vec-clause-told
+returns-in_default-vec-clause-told g c = λ told s doubt stands.
+    no_memory g.D.Disk s doubt c.args.view c.args.cid.now c.args.self.now c.args.self.now refl refl refl stands (ap (λ views. finite_set.contains views c.args.view) stands.views ∙ sym c.if-not-contains.ensures) (some_len _ _ (c.in-Some.ensures.block s doubt stands))

@@ -1,12 +1,14 @@
-use Rattle.std.proofs.Common.{◌≡◌, ℕ, ◌-◌, ◌^◌, List, false, take, ◌∙◌, arith}
+use Rattle.std.proofs.Common.{◌≡◌, ℕ, ◌-◌, ◌^◌, List, false, take, ap, ◌∙◌, arith}
+use Rattle.std.specs.Option.{unwrap_or}
 use Rattle.std.proofs.lemmas.List.{take_all, length-set, length-replicate}
 use Rattle.std.proofs.lemmas.Option.{slice_get_within}
-use Rattle.ss_core.proofs.PutBytes.{bytes_more, least_more, own_more, kept_is, none_is, length_some, noted_more}
+use Rattle.ss_core.proofs.PutBytes.{bytes_more, held_more, least_more, own_more, kept_is, none_is, length_some, noted_more}
 use Rattle.ss_core.proofs.split_core.SplitCore.look.Goals as goal
 
 pub loop-i-init : goal.loop-i-init
 loop-i-init g c = record {
   least = omega arith;
+  held = omega arith;
   all = λ s doubt stands. omega arith;
   own = λ none. omega arith;
   room = length-replicate 1024 false;
@@ -17,6 +19,8 @@ pub loop-i-preserved : goal.loop-i-preserved
 loop-i-preserved g c =
     let pair : List ℕ × List ℕ = (c.at-cid.result.0, c.at-cid.result.1.now) in record {
       least = least_more c.args.parcel.now c.loop-i.i pair c.loop-i.bytes c.pair_bytes.result c.saturating_add-bytes.result (2 ^ 64 - 1) c.at-cid.ensures c.loop-i.invariant.least (omega (arith, c.pair_bytes.ensures)) c.saturating_add-bytes.ensures;
+      held = held_more c.args.self.now.hot.places c.args.parcel.now c.loop-i.i pair c.loop-i.bytes c.pair_bytes.result c.saturating_add-bytes.result (2 ^ 64 - 1) c.at-cid.ensures c.loop-i.invariant.held
+          (omega (arith, c.pair_bytes.ensures, c.unwrap_or.ensures, ap (λ o. unwrap_or o 0) c.kept_len-len.ensures.place)) c.saturating_add-bytes.ensures;
       all = λ s doubt stands. bytes_more s.kept c.args.parcel.now c.loop-i.i pair c.loop-i.bytes c.pair_bytes.result c.saturating_add-bytes.result (2 ^ 64 - 1) c.at-cid.ensures (c.loop-i.invariant.all s doubt stands)
           (omega (arith, c.pair_bytes.ensures, kept_is _ _ c.unwrap_or.result (c.kept_len-len.ensures.block s doubt stands) c.unwrap_or.ensures)) c.saturating_add-bytes.ensures;
       own = λ none. own_more c.args.parcel.now c.loop-i.i pair c.loop-i.bytes c.pair_bytes.result c.saturating_add-bytes.result (2 ^ 64 - 1) c.at-cid.ensures (c.loop-i.invariant.own none)
@@ -29,6 +33,11 @@ pub returns-clause-least : goal.returns-clause-least
 returns-clause-least g c =
     let whole : take c.loop-i.i c.args.parcel.now ≡ c.args.parcel.now = take_all c.loop-i.i c.args.parcel.now (omega arith) in
     rw whole at c.loop-i.invariant.least
+
+pub returns-clause-held : goal.returns-clause-held
+returns-clause-held g c =
+    let whole : take c.loop-i.i c.args.parcel.now ≡ c.args.parcel.now = take_all c.loop-i.i c.args.parcel.now (omega arith) in
+    rw whole at c.loop-i.invariant.held
 
 pub returns-clause-all : goal.returns-clause-all
 returns-clause-all g c = λ s doubt stands.

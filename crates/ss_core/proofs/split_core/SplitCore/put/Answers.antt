@@ -52,3 +52,12 @@ returns-in-Ok-Part-clause-made g c = c.put_fresh-in-Ok-Part.ensures.made c.args.
 pub returns-in-Err-fresh_blocks-clause-told : goal.returns-in-Err-fresh_blocks-clause-told
 returns-in-Err-fresh_blocks-clause-told g c = λ told s doubt stands.
     no_memory g.D.Disk s doubt c.args.view c.args.parcel.now _ (c.in-Ok.ensures.decides s doubt stands) refl c.args.self.now stands
+
+pub returns-in-Ok-Nothing-clause-due : goal.returns-in-Ok-Nothing-clause-due
+returns-in-Ok-Nothing-clause-due g c = c.put_nothing.ensures.due c.args.view c.args.parcel.now
+
+pub returns-in-Ok-All-clause-due : goal.returns-in-Ok-All-clause-due
+returns-in-Ok-All-clause-due g c = c.put_fresh.ensures.due c.args.view c.args.parcel.now
+
+pub returns-in-Ok-Part-clause-due : goal.returns-in-Ok-Part-clause-due
+returns-in-Ok-Part-clause-due g c = c.put_fresh-in-Ok-Part.ensures.due c.args.view c.args.parcel.now

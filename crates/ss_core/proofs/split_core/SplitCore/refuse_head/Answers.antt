@@ -17,12 +17,12 @@ pub returns-then-is_none-clause-decides : goal.returns-then-is_none-clause-decid
 returns-then-is_none-clause-decides g c = λ s doubt stands.
     decides s.kept c.args.cids.now _ c.in_default.ensures.fault
     (first_of-found (absent_at s.kept c.args.cids.now) c.loop-i.i _ (head.Absent c.loop-i.i) (c.loop-i.invariant s doubt stands) (omega arith)
-    (is_absent s.kept c.args.cids.now c.loop-i.i c.at-cid.result c.at-cid.ensures (sym (ap is_some (c.block_len.ensures s doubt stands)) ∙ c.is_none.ensures ∙ ap not c.if-is_none.true)))
+    (is_absent s.kept c.args.cids.now c.loop-i.i c.at-cid.result c.at-cid.ensures (sym (ap is_some (c.block_len.ensures.block s doubt stands)) ∙ c.is_none.ensures ∙ ap not c.if-is_none.true)))
 
 pub loop-i-preserved : goal.loop-i-preserved
 loop-i-preserved g c = λ s doubt stands.
     first_of-next (absent_at s.kept c.args.cids.now) c.loop-i.i (c.loop-i.invariant s doubt stands)
-    (is_present s.kept c.args.cids.now c.loop-i.i c.at-cid.result c.at-cid.ensures (sym (ap is_some (c.block_len.ensures s doubt stands)) ∙ c.is_none.ensures ∙ ap not c.if-is_none.false))
+    (is_present s.kept c.args.cids.now c.loop-i.i c.at-cid.result c.at-cid.ensures (sym (ap is_some (c.block_len.ensures.block s doubt stands)) ∙ c.is_none.ensures ∙ ap not c.if-is_none.false))
 
 pub returns-clause-decides : goal.returns-clause-decides
 returns-clause-decides g c = λ s doubt stands.

@@ -1,7 +1,6 @@
 use Rattle.std.proofs.Common.{◌<◌, ◌-◌, length, sym, subst, arith}
 use Rattle.std.proofs.lemmas.List.{get_or_read}
-use Rattle.ss_marks.specs.Walk.{HasCome}
-use Rattle.ss_marks.proofs.Walks.{come_next}
+use Rattle.ss_marks.proofs.Walks.{HasCome, come_next}
 use Rattle.ss_marks.proofs.index.Index.above.Goals as goal
 
 pub loop-last-preserved : goal.loop-last-preserved

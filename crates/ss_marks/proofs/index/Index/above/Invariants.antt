@@ -1,4 +1,4 @@
-use Rattle.ss_marks.specs.Walk.{HasCome}
+use Rattle.ss_marks.proofs.Walks.{HasCome}
 use Rattle.ss_marks.proofs.index.Index.above.Given as goal
 
 abbrev pub invariant-loop-last : goal.invariant-loop-last

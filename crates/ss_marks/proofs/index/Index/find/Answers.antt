@@ -4,9 +4,8 @@ use Rattle.std.proofs.lemmas.List.{get_or_read}
 use Rattle.std.proofs.lemmas.Slice.Eq.{bytes_eq-Decides}
 use Rattle.std.proofs.lemmas.Bool.{false≢true}
 use Rattle.ss_marks.specs.Rows.{no_row, slot_of}
-use Rattle.ss_marks.specs.Walk.{HasMissed}
 use Rattle.ss_marks.proofs.Rows.{slot_at-some, coloured_within}
-use Rattle.ss_marks.proofs.Walks.{missed_next, found, none_without_slots}
+use Rattle.ss_marks.proofs.Walks.{HasMissed, missed_next, found, none_without_slots}
 use Rattle.ss_marks.proofs.index.Index.find.Goals as goal
 
 pub returns-then-is_empty : goal.returns-then-is_empty

@@ -1,5 +1,5 @@
 use Rattle.std.proofs.Common.{length}
-use Rattle.ss_marks.specs.Walk.{HasMissed}
+use Rattle.ss_marks.proofs.Walks.{HasMissed}
 use Rattle.ss_marks.proofs.index.Index.find.Given as goal
 
 abbrev pub invariant-loop-last : goal.invariant-loop-last

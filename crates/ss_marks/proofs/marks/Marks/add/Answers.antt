@@ -4,8 +4,7 @@ use Rattle.ss_marks.specs.declared.colour.Colour.TheVariants.{White}
 use Rattle.ss_marks.specs.declared.row.Row.{Row}
 use Rattle.ss_marks.specs.Marks.{MarkTable}
 use Rattle.ss_marks.specs.Index.{IsChained, Indexes, slot_at, without_row}
-use Rattle.ss_marks.specs.Stack.{IsStack}
-use Rattle.ss_marks.specs.Vacant.{IsVacant}
+use Rattle.ss_marks.specs.Rows.{IsStack, IsVacant}
 use Rattle.ss_marks.proofs.Membership.{slots_without, added_sound, added_marks, not_live}
 use Rattle.ss_marks.proofs.Calls.{absent_here, has_here}
 use Rattle.ss_marks.proofs.marks.Marks.add.Goals as goal

@@ -2,8 +2,7 @@ use Rattle.std.proofs.Common.{◌≡◌, ◌<◌, ◌+◌, Some, length, get_or,
 use Rattle.std.specs.Vec.{with_items}
 use Rattle.ss_marks.specs.declared.colour.Colour.TheVariants.{Grey, Out}
 use Rattle.ss_marks.specs.Marks.{MarkTable, NoneIs, coloured, mark_of}
-use Rattle.ss_marks.specs.Rows.{row_at, marks_of}
-use Rattle.ss_marks.specs.Stack.{IsStack}
+use Rattle.ss_marks.specs.Rows.{row_at, marks_of, IsStack}
 use Rattle.ss_marks.specs.Sound.{IsGrey}
 use Rattle.ss_marks.proofs.Rows.{coloured_within}
 use Rattle.ss_marks.proofs.Colours.{none_of_count}

@@ -3,7 +3,7 @@ use Rattle.std.specs.Vec.{with_items}
 use Rattle.std.proofs.lemmas.List.{get_or-set_other}
 use Rattle.ss_marks.specs.declared.colour.Colour.TheVariants.{Grey, Out}
 use Rattle.ss_marks.specs.Marks.{MarkTable, coloured}
-use Rattle.ss_marks.specs.Stack.{IsStack}
+use Rattle.ss_marks.specs.Rows.{IsStack}
 use Rattle.ss_marks.specs.Sound.{IsGrey}
 use Rattle.ss_marks.proofs.Changes.{recoloured_items, recoloured_sound, recoloured_table}
 use Rattle.ss_marks.proofs.Calls.{row_here, live_of_colour, out_here, change_at, cid_here, colour_here, linked_items, grey_pushed, one_more_fits}

@@ -5,7 +5,7 @@ use Rattle.std.proofs.lemmas.List.{get_or-set_other}
 use Rattle.std.proofs.lemmas.Option.{same_Some}
 use Rattle.ss_marks.specs.declared.colour.Colour.TheVariants.{White, Grey, Out}
 use Rattle.ss_marks.specs.Marks.{Mark, MarkTable, row_of, colour_of, coloured, IsColoured}
-use Rattle.ss_marks.specs.Stack.{IsStack}
+use Rattle.ss_marks.specs.Rows.{IsStack}
 use Rattle.ss_marks.specs.Sound.{IsGrey}
 use Rattle.ss_marks.proofs.Changes.{recoloured_items, recoloured_sound, recoloured_table}
 use Rattle.ss_marks.proofs.Calls.{row_here, change_at, cid_here, colour_here, linked_items, grey_pushed, one_more_fits, coloured_of}

@@ -2,7 +2,7 @@ use Rattle.std.proofs.Common.{◌≡◌, List, ℕ, subst}
 use Rattle.std.specs.Prelude.{option_map}
 use Rattle.ss_chain.specs.Reach.{Reach}
 use Rattle.ss_marks.specs.Marks.{MarkTable, mark_of, whitened}
-use Rattle.ss_txn.specs.Protected.{none_kept}
+use Rattle.ss_txn.specs.Marked.{none_kept}
 use Rattle.ss_txn.specs.Changes.{MayShade, Protects, Begins}
 use Rattle.ss_txn.proofs.Shading.{same_then}
 use Rattle.ss_txn.proofs.Marking.{begins_marked, begins_rows}

@@ -2,8 +2,7 @@ use Rattle.std.proofs.Common.{◌≡◌, ◌-◌, IsTrue, List}
 use Rattle.ss_disk.specs.Disk.{Same}
 use Rattle.ss_disk.specs.Calls.{Goes}
 use Rattle.ss_records.specs.declared.record.Record.{Record}
-use Rattle.ss_hot.specs.Walk.{AreBefore}
-use Rattle.ss_hot.specs.Opening.{IsUnderWay, HasRead, OpensSame}
+use Rattle.ss_hot.specs.Opening.{AreBefore, IsUnderWay, HasRead, OpensSame}
 use Rattle.ss_hot.proofs.store.opening.Opening.read_all.Given as goal
 
 abbrev pub invariant-loop : goal.invariant-loop

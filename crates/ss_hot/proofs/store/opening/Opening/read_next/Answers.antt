@@ -7,7 +7,7 @@ use Rattle.ss_store.specs.declared.fault.StoreFault.TheVariants.{Damaged}
 use Rattle.ss_store.specs.Append.{bodies}
 use Rattle.ss_store.proofs.Faults.{damaged_reader}
 use Rattle.ss_hot.specs.File.{IsFaulty}
-use Rattle.ss_hot.specs.Walk.{AreBefore, IsRead, IsMisfit}
+use Rattle.ss_hot.specs.Opening.{AreBefore, IsRead, IsMisfit}
 use Rattle.ss_hot.proofs.Faults.{one_damaged}
 use Rattle.ss_hot.proofs.Opened.{read_on, misfit_next, unfit_next}
 use Rattle.ss_hot.proofs.Passed.{before_read}

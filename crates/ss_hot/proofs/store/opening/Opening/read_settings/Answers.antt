@@ -10,8 +10,7 @@ use Rattle.ss_records.specs.Record.{SettingsFit}
 use Rattle.ss_records.specs.Fields.{read_record}
 use Rattle.ss_store.specs.Append.{bodies}
 use Rattle.ss_hot.specs.File.{HasSettings}
-use Rattle.ss_hot.specs.Walk.{AreBefore, IsRead, IsMisfit}
-use Rattle.ss_hot.specs.Opening.{Passes}
+use Rattle.ss_hot.specs.Opening.{AreBefore, IsRead, IsMisfit, Passes}
 use Rattle.ss_hot.proofs.Early.{first_size, second_size, second_reads, second_none, two_commit, two_read, first_misfit}
 use Rattle.ss_hot.proofs.Faults.{if_some}
 use Rattle.ss_hot.proofs.Opened.{read_on}

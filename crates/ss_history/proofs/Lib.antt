@@ -1,0 +1,3 @@
+pub mod Fulfilled
+pub mod Still
+pub mod Stories

@@ -1,0 +1,226 @@
+-- An import that nothing stands in the way of comes to its end, or runs out of memory.
+use Rattle.std.proofs.Common.{◌≡◌, ◌⊎◌, inl, inr, ⊎_elim, ℕ, zero, suc, ◌+◌, ◌-◌, ◌^◌, ◌<◌, ◌≤◌, max, Bool, true, false, ◌||◌, List, [], ◌∷◌, ◌++◌, map, length, Option, Some, None, Result, Ok, Err, refl, sym, ap, ◌∙◌, subst, arith, append_assoc, length-append, true≢false}
+use Rattle.std.specs.Prelude.{IsOk, slice_get, is_some, option_map}
+use Rattle.std.specs.List.{list_any}
+use Rattle.std.specs.FinMap as finite_map
+use Rattle.std.proofs.lemmas.List.{append-nil, map-append}
+use Rattle.ss_car.specs.Car.{Section, IsCar, StartFault}
+use Rattle.ss_car.specs.declared.fault.CarRefusal.{CarRefusal}
+use Rattle.ss_car.proofs.Readings.{start-none}
+use Rattle.ss_car.proofs.Sections.{car-one, car-split}
+use Rattle.ss_chain.specs.Steps.{or_else}
+use Rattle.ss_chain.specs.Tipset.{fault_in, tipset_of}
+use Rattle.ss_model.specs.State.{State, Kept}
+use Rattle.ss_model.specs.Head.{IsHead, head_refusal, answer_of, blocks_of}
+use Rattle.ss_model.specs.Lawful.{Lawful, LawfulHead, After, AreSound, IsSound, IsSmall, IsPairFault, with_blocks, put_bytes, length_of}
+use Rattle.ss_model.specs.History.{Legal, AfterAll}
+use Rattle.ss_model.specs.declared.TheConstants.{PUT_BYTES}
+use Rattle.ss_model.specs.declared.call.Call.TheVariants as call
+use Rattle.ss_model.specs.declared.call.Answer.TheVariants as answer
+use Rattle.ss_model.specs.declared.call.ViewReply.{ViewReply}
+use Rattle.ss_model.specs.declared.call.PutReply.{PutReply}
+use Rattle.ss_model.specs.declared.call.PutReply.TheVariants as put
+use Rattle.ss_model.specs.declared.call.HeadReply.{HeadReply}
+use Rattle.ss_model.specs.declared.call.HeadReply.TheVariants as head
+use Rattle.ss_model.specs.declared.call.Entry.{Entry}
+use Rattle.ss_history.specs.History.{AreRooms, HavePlace, faults_in, is_refused}
+use Rattle.ss_history.proofs.Fulfilled.{fulfilled}
+use Rattle.ss_history.proofs.Stories.{faults_more}
+use Rattle.ss_import.specs.declared.fault.BlockFault.{BlockFault}
+use Rattle.ss_import.specs.declared.fault.BlockFault.TheVariants as block
+use Rattle.ss_import.specs.declared.fault.ImportFault.{ImportFault}
+use Rattle.ss_import.specs.declared.fault.ImportFault.TheVariants as import
+use Rattle.ss_import.specs.declared.importer.Imported.{Imported}
+use Rattle.ss_import.specs.Import.{entry, pair_of, ArePuts, IsLastPut, IsLastHead, AreRead, IsWhole, EndsPuts, EndsReading, EndsHead, IsBlockFault, IsImport}
+use Rattle.ss_import.specs.Valid.{AreCalls, AreSmall, IsImportable}
+use Rattle.ss_import.proofs.Kept.{HasStored, puts_keep, blocks_small}
+use Rattle.ss_import.proofs.Puts.{puts_read, puts_before}
+use Rattle.ss_import.proofs.Putting.{opened}
+use Rattle.ss_import.proofs.Unsound.{not_unknown, not_mismatch, not_malformed}
+
+-- ---- lists
+
+any_last : (f : Entry → Bool) (h : List Entry) (e : Entry) → f e ≡ true → list_any f (h ++ e ∷ []) ≡ true
+any_last f [] e is = ap (λ b. b || false) is
+any_last f (x ∷ h) e is = ap (λ b. f x || b) (any_last f h e is) ∙ either (f x)
+  where
+    either : (b : Bool) → (b || true) ≡ true
+    either true = refl
+    either false = refl
+
+legal_behind : (s : State) (a b : List Entry) → Legal s (a ++ b) → Legal (AfterAll s a) b
+legal_behind s [] b legal = legal
+legal_behind s (e ∷ a) b legal = legal_behind (After s e.call e.answer) a b legal.1
+
+sound_at : (xs ys : List (List ℕ × List ℕ)) (p : List ℕ × List ℕ) → AreSound (xs ++ p ∷ ys) → IsSound p
+sound_at [] ys p sound = sound 0 p (omega arith) refl
+sound_at (x ∷ xs) ys p sound = sound_at xs ys p (λ k q within at. sound (suc k) q (omega (arith, within)) at)
+
+sound_front : (xs ys : List (List ℕ × List ℕ)) → AreSound (xs ++ ys) → AreSound xs
+sound_front [] ys sound k q within at = absurd (let no : ⊥ = omega (arith, within) in no)
+sound_front (x ∷ xs) ys sound zero q within at = sound zero q (omega arith) at
+sound_front (x ∷ xs) ys sound (suc k) q within at = sound_front xs ys (λ j r inside is. sound (suc j) r (omega (arith, inside)) is) k q (omega (arith, within)) at
+
+-- what cannot be both
+differ : {A : Type 0} {x : A} → Some x ≡ None → ⊥
+differ e = cc
+
+-- ---- blocks
+
+-- a block that is kept is no longer than a block may be
+kept_short : (found : Option (List ℕ)) (c : List ℕ) → length c ≤ 8388608 → ((b : List ℕ) → found ≡ Some b → IsSmall (c, b)) → length c + length_of found ≤ 8388608
+kept_short None c short small = omega (arith, short)
+kept_short (Some b) c short small = small b refl
+
+-- one pair that is no longer than a block may be is not too big
+not_big : (kept : Kept) (p : List ℕ × List ℕ) → AreSmall kept → IsSmall p → PUT_BYTES < put_bytes kept (p ∷ []) → ⊥
+not_big kept p small is big = let short = kept_short (finite_map.get kept p.0) p.0 (omega (arith, is)) (λ b found. small p.0 b found) in omega (arith, short, is, big)
+
+-- ---- heads
+
+no_refusal : (kept : Kept) (cids : List (List ℕ)) (height : ℕ) → IsHead kept cids height → head_refusal kept cids ≡ None
+no_refusal kept cids height is = ap (λ r. or_else r (option_map answer_of (fault_in (tipset_of (blocks_of kept cids))))) is.known ∙ ap (λ r. option_map answer_of (fault_in r)) is.tipset
+
+-- a refusal of a head that is lawful is one that the blocks decide
+refused_lawfully : (s : State) (cids : List (List ℕ)) (height : ℕ) (reply : HeadReply) → IsHead s.kept cids height → LawfulHead s cids reply → EndsHead reply (import.BadHead reply) → ⊥
+refused_lawfully s cids height head.Empty is lawful ends = differ (sym lawful ∙ no_refusal s.kept cids height is)
+refused_lawfully s cids height (head.TooMany n) is lawful ends = differ (sym lawful ∙ no_refusal s.kept cids height is)
+refused_lawfully s cids height (head.Repeated i) is lawful ends = differ (sym lawful ∙ no_refusal s.kept cids height is)
+refused_lawfully s cids height (head.Absent i) is lawful ends = differ (sym lawful ∙ no_refusal s.kept cids height is)
+refused_lawfully s cids height (head.NotHeader i) is lawful ends = differ (sym lawful ∙ no_refusal s.kept cids height is)
+refused_lawfully s cids height (head.HeightDiffers i) is lawful ends = differ (sym lawful ∙ no_refusal s.kept cids height is)
+refused_lawfully s cids height (head.ParentsDiffer i) is lawful ends = differ (sym lawful ∙ no_refusal s.kept cids height is)
+refused_lawfully s cids height head.NoMemory is lawful ends = absurd (cc (ends))
+refused_lawfully s cids height head.DiskFault is lawful ends = absurd (cc (ends))
+refused_lawfully s cids height (head.LogFull file need room) is lawful ends = absurd (cc (ends))
+refused_lawfully s cids height (head.Set n) is lawful ends = ends
+
+-- ---- an import
+
+module _ (wants : Bool) (bytes : List ℕ) (roots : List (List ℕ)) (sections : List Section) (s : State) (end : ℕ) (fine : IsImportable wants bytes roots sections s end) (small : AreSmall s.kept)
+    (v : ℕ) (these : List (List ℕ)) (read left : List Section) (puts last : List Entry) (are_puts : ArePuts v read puts left) (is_read : AreRead (Some bytes) these read)
+    (legal : Legal s (opened v ∷ (puts ++ last))) (rooms : AreRooms s end (opened v ∷ (puts ++ last))) (none : faults_in (opened v ∷ (puts ++ last)) ≡ 0) where
+  abbrev begun : State
+  begun = After s call.OpenView (answer.View (ViewReply.Opened v))
+
+  -- the sections that were read are the first of all
+  first : (more : List Section) × (sections ≡ read ++ more)
+  first = ⊎_elim (λ nothing. (sections, ap (λ l. l ++ sections) (sym nothing))) (λ told. let b = (told bytes refl).1 in (car-split b.front b.rest these roots read sections None b.is_car (subst (λ l. IsCar l roots sections None) b.spelled fine.car)).1) is_read
+
+  stored : HasStored s.kept (AfterAll begun puts).kept read left
+  stored = puts_keep begun v read puts left are_puts
+
+  pairs_are : map pair_of sections ≡ map pair_of read ++ map pair_of first.0
+  pairs_are = ap (map pair_of) first.1 ∙ map-append pair_of read first.0
+
+  sound_read : AreSound (map pair_of read)
+  sound_read = sound_front (map pair_of read) (map pair_of first.0) (subst AreSound pairs_are fine.sound)
+
+  calls : (last ≡ []) ⊎ (((reply : PutReply) × IsLastPut v left last reply) ⊎ ((reply : HeadReply) × IsLastHead roots last reply)) → AreCalls roots sections (opened v ∷ (puts ++ last))
+  calls ends = record {
+    view = v;
+    puts = puts;
+    left = left ++ first.0;
+    last = last;
+    are = refl;
+    are_puts = subst (λ l. ArePuts v l puts (left ++ first.0)) (sym first.1) (puts_read v read puts left first.0 are_puts);
+    ends = ⊎_elim (λ nothing. inl nothing) (⊎_elim (λ p. inr (inl (p.0, (p.1.0, p.1.1 ++ first.0, ap (λ l. l ++ first.0) p.1.2 ∙ append_assoc p.1.0 p.1.1 first.0, p.1.3, p.1.4)))) (λ h. inr (inr h))) ends;
+  }
+
+  -- no entry is a fault of the disk, a full log or a full table
+  never : (e : Entry) → last ≡ e ∷ [] → AreCalls roots sections (opened v ∷ (puts ++ last)) → is_refused e ≡ true → ⊥
+  never e is made wrong =
+      let all = fulfilled s end (opened v ∷ (puts ++ last)) legal rooms (fine.place (opened v ∷ (puts ++ last)) made legal) none in
+      true≢false (sym (any_last is_refused (opened v ∷ puts) e wrong) ∙ ap (λ l. list_any is_refused (opened v ∷ (puts ++ l))) (sym is) ∙ all)
+
+  bad_block : (x : Section) (more : List Section) (fault : BlockFault) → left ≡ x ∷ more → IsBlockFault v puts x fault → ⊥
+  bad_block x more fault is blames = by fault blames
+    where
+      sound : IsSound (pair_of x)
+      sound = sound_at (map pair_of stored.stored) (map pair_of more) (pair_of x) (subst AreSound (ap (map pair_of) (stored.parts ∙ ap (λ l. stored.stored ++ l) is) ∙ map-append pair_of stored.stored (x ∷ more)) sound_read)
+
+      by : (f : BlockFault) → IsBlockFault v puts x f → ⊥
+      by block.UnknownHash b = not_unknown (pair_of x) sound 0 0 b
+      by block.Mismatch b = not_mismatch (pair_of x) sound 0 0 b
+      by block.Malformed b = not_malformed (pair_of x) sound 0 0 b.0 b.1 b.2
+      by block.TooLarge b =
+          let before = puts_before v read b.1 (entry (call.Put v (pair_of x ∷ [])) (answer.Put (put.TooBig b.0)) ∷ []) left (subst (λ l. ArePuts v read l left) b.2 are_puts) in
+          let kept = puts_keep begun v read b.1 before.0 before.1 in
+          let short = subst AreSmall (sym kept.kept_is) (blocks_small s.kept (map pair_of kept.stored) small (sound_front (map pair_of kept.stored) (map pair_of before.0) (subst AreSound (ap (map pair_of) kept.parts ∙ map-append pair_of kept.stored before.0) sound_read))) in
+          let there = legal_behind begun b.1 (entry (call.Put v (pair_of x ∷ [])) (answer.Put (put.TooBig b.0)) ∷ last) (subst (Legal begun) (ap (λ l. l ++ last) b.2 ∙ append_assoc b.1 _ last) legal.1) in
+          not_big (AfterAll begun b.1).kept (pair_of x) short sound.small there.0.2
+
+  put_ends : (fault : ImportFault) → EndsPuts v puts left last fault → fault ≡ import.NoMemory
+  put_ends import.NoMemory ends = refl
+  put_ends import.DiskFault ends = absurd (never _ ends.4 (calls (inr (inl (put.DiskFault, ends)))) refl)
+  put_ends (import.LogFull file need room) ends = absurd (never _ ends.4 (calls (inr (inl (put.LogFull file need room, ends)))) refl)
+  put_ends (import.TableFull rows) ends = absurd (never _ ends.4 (calls (inr (inl (put.TableFull rows, ends)))) refl)
+  put_ends (import.BadBlock fault offset) ends = absurd (bad_block ends.1 ends.2 fault ends.3 ends.5)
+  put_ends import.ReadFault ends = absurd ends
+  put_ends (import.BadCar fault offset) ends = absurd ends
+  put_ends import.TooLong ends = absurd ends
+  put_ends (import.BadHead reply) ends = absurd ends
+
+  car_ends : (fault : ImportFault) → (fault ≡ import.ReadFault → ⊥) → EndsReading (Some bytes) these read left fault → fault ≡ import.NoMemory
+  car_ends import.NoMemory read_on ends = refl
+  car_ends import.ReadFault read_on ends = absurd (read_on refl)
+  car_ends (import.BadCar fault offset) read_on ends = absurd (⊎_elim
+      (λ told. let differ : None ≡ Some _ = (car-one bytes roots these sections read None _ fine.car (told bytes refl)).2 in let no : ⊥ = cc (differ) in no)
+      (λ start. start-none fine.car.start fine.car.rest roots fault fine.car.is_start (subst (λ l. StartFault l fault) fine.car.spelled (start.2 bytes refl)))
+      ends.1)
+  car_ends import.TooLong read_on ends =
+      let b = ends.4 bytes refl in
+      absurd (let no : ⊥ = omega (arith, ends.3, b.end_is, ap length b.spelled, length-append b.front b.rest, fine.short) in no)
+  car_ends import.DiskFault read_on ends = absurd ends
+  car_ends (import.LogFull file need room) read_on ends = absurd ends
+  car_ends (import.TableFull rows) read_on ends = absurd ends
+  car_ends (import.BadBlock fault offset) read_on ends = absurd ends
+  car_ends (import.BadHead reply) read_on ends = absurd ends
+
+  head_ends : (fault : ImportFault) (reply : HeadReply) → wants ≡ true → left ≡ [] → IsWhole (Some bytes) these read → IsLastHead these last reply → EndsHead reply fault → fault ≡ import.NoMemory
+  head_ends fault reply wanted all whole heads ends = by reply refl ends
+    where
+      same : (these ≡ roots) × (read ≡ sections) × (◌≡◌ {A = Option CarRefusal} None None)
+      same = car-one bytes these roots read sections None None (whole bytes refl) fine.car
+
+      mine : IsLastHead roots last reply
+      mine = subst (λ r. IsLastHead r last reply) same.0 heads
+
+      kept : (AfterAll begun puts).kept ≡ with_blocks s.kept (map pair_of sections)
+      kept = stored.kept_is ∙ ap (λ l. with_blocks s.kept (map pair_of l)) (sym (stored.parts ∙ ap (λ l. stored.stored ++ l) all ∙ append-nil stored.stored) ∙ same.1)
+
+      height : (height : ℕ) × IsHead (AfterAll begun puts).kept roots height
+      height = let h = fine.head wanted in (h.0, subst (λ k. IsHead k roots h.0) (sym kept) h.1)
+
+      there : LawfulHead (AfterAll begun puts) roots reply
+      there = (subst (Legal (AfterAll begun puts)) mine (legal_behind begun puts last legal.1)).0
+
+      refused : EndsHead reply (import.BadHead reply) → ⊥
+      refused is = refused_lawfully (AfterAll begun puts) roots height.0 reply height.1 there is
+
+      made : AreCalls roots sections (opened v ∷ (puts ++ last))
+      made = calls (inr (inr (reply, mine)))
+
+      by : (r : HeadReply) → r ≡ reply → EndsHead r fault → fault ≡ import.NoMemory
+      by head.NoMemory is e = e
+      by head.DiskFault is e = absurd (never _ mine made (ap (λ r. is_refused (entry (call.SetHead roots) (answer.Head r))) (sym is)))
+      by (head.LogFull file need room) is e = absurd (never _ mine made (ap (λ r. is_refused (entry (call.SetHead roots) (answer.Head r))) (sym is)))
+      by (head.Set n) is e = absurd e
+      by head.Empty is e = absurd (refused (subst (λ r. EndsHead r (import.BadHead r)) is refl))
+      by (head.TooMany n) is e = absurd (refused (subst (λ r. EndsHead r (import.BadHead r)) is refl))
+      by (head.Repeated i) is e = absurd (refused (subst (λ r. EndsHead r (import.BadHead r)) is refl))
+      by (head.Absent i) is e = absurd (refused (subst (λ r. EndsHead r (import.BadHead r)) is refl))
+      by (head.NotHeader i) is e = absurd (refused (subst (λ r. EndsHead r (import.BadHead r)) is refl))
+      by (head.HeightDiffers i) is e = absurd (refused (subst (λ r. EndsHead r (import.BadHead r)) is refl))
+      by (head.ParentsDiffer i) is e = absurd (refused (subst (λ r. EndsHead r (import.BadHead r)) is refl))
+
+pub complete : (Did : List Entry → Type 0) (wants : Bool) (bytes : List ℕ) (roots : List (List ℕ)) (sections : List Section) (s : State) (end : ℕ) (result : Result Imported ImportFault) (i : IsImport Did wants (Some bytes) result)
+    → IsImportable wants bytes roots sections s end → AreSmall s.kept → Legal s (opened i.view ∷ (i.puts ++ i.last)) → AreRooms s end (opened i.view ∷ (i.puts ++ i.last)) → faults_in (opened i.view ∷ (i.puts ++ i.last)) ≡ 0 → (result ≡ Err import.ReadFault → ⊥)
+    → IsOk result ⊎ (result ≡ Err import.NoMemory)
+complete Did wants bytes roots sections s end (Ok done) i fine small legal rooms none read_on = inl refl
+complete Did wants bytes roots sections s end (Err fault) i fine small legal rooms none read_on = inr (ap Err (⊎_elim
+    (λ ends. put_ends wants bytes roots sections s end fine small i.view i.roots i.sections i.left i.puts i.last i.are_puts i.read legal rooms none fault ends)
+    (⊎_elim
+    (λ reading. car_ends wants bytes roots sections s end fine small i.view i.roots i.sections i.left i.puts i.last i.are_puts i.read legal rooms none fault (λ is. read_on (ap Err is)) reading.1)
+    (λ h. head_ends wants bytes roots sections s end fine small i.view i.roots i.sections i.left i.puts i.last i.are_puts i.read legal rooms none fault h.3 h.0 h.1 h.2 h.4 h.5))
+    i.reason))

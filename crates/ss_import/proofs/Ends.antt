@@ -1,0 +1,152 @@
+-- How an import ends: at the header, at a section, or with all its sections read and put.
+use Rattle.std.proofs.Common.{◌≡◌, inl, inr, ⊎_elim, ℕ, Bool, true, false, List, [], ◌∷◌, ◌++◌, Option, None, Some, Result, Ok, Err, refl, sym, ◌∙◌, subst}
+use Rattle.std.specs.Prelude.{IsTrue}
+use Rattle.std.proofs.lemmas.List.{append-nil}
+use Rattle.ss_disk.specs.declared.disk.Disk.{Ghosts}
+use Rattle.ss_car.specs.Car.{Section, StartFault}
+use Rattle.ss_car.specs.Bodies.{Blames, FaultHasCause}
+use Rattle.ss_car.specs.declared.fault.CarFault.{CarFault}
+use Rattle.ss_car.specs.declared.fault.CarFault.TheVariants as car
+use Rattle.ss_records.specs.declared.record.Record.{Record}
+use Rattle.ss_model.specs.State.{State}
+use Rattle.ss_model.specs.declared.call.Call.TheVariants as call
+use Rattle.ss_model.specs.declared.call.Answer.TheVariants as answer
+use Rattle.ss_model.specs.declared.call.HeadReply.{HeadReply}
+use Rattle.ss_model.specs.declared.call.HeadReply.TheVariants as head
+use Rattle.ss_model.specs.declared.call.Entry.{Entry}
+use Rattle.ss_core.specs.declared.split_core.SplitCore.{SplitCore}
+use Rattle.ss_core.specs.Calls.{Steps, Makes}
+use Rattle.ss_core.specs.StandsFor.{StandsFor}
+use Rattle.ss_history.specs.Story.{Story}
+use Rattle.ss_history.proofs.Stories.{story_more}
+use Rattle.ss_import.specs.declared.fault.ImportFault.{ImportFault}
+use Rattle.ss_import.specs.declared.fault.ImportFault.TheVariants as import
+use Rattle.ss_import.specs.declared.importer.Imported.{Imported}
+use Rattle.ss_import.specs.declared.importer.Importer.{Importer}
+use Rattle.ss_import.specs.Fault.{fault_at}
+use Rattle.ss_import.specs.Import.{entry, AreRead, IsWhole, EndsReading, EndsHead, IsImport, CountsSource}
+use Rattle.ss_import.specs.Progress.{Putting}
+use Rattle.ss_import.specs.Steps.{WasRead, Ended, FaultCounts}
+use Rattle.ss_import.proofs.Putting.{opened}
+
+-- all bytes were read
+all_read : (input : Option (List ℕ)) (roots : List (List ℕ)) (sections : List Section) → IsWhole input roots sections → AreRead input roots sections
+all_read input roots sections whole = inr (λ bytes is. (_, record { front = bytes; rest = []; spelled = sym (append-nil bytes); is_car = whole bytes is; end_is = refl }))
+
+-- the source's count of faults, by the fault that ends an import
+pub fault_counts : (before now : ℕ) (fault : ImportFault) → FaultCounts before now fault → CountsSource before now (Err fault)
+fault_counts before now import.ReadFault counts = counts
+fault_counts before now import.NoMemory counts = counts
+fault_counts before now import.DiskFault counts = counts
+fault_counts before now (import.BadCar f offset) counts = counts
+fault_counts before now (import.BadBlock f offset) counts = counts
+fault_counts before now (import.LogFull file need room) counts = counts
+fault_counts before now (import.TableFull rows) counts = counts
+fault_counts before now import.TooLong counts = counts
+fault_counts before now (import.BadHead reply) counts = counts
+
+-- the same, by the fault of the header
+pub header_counts : (before now : ℕ) (f : CarFault) (offset : ℕ) → FaultHasCause before now f → CountsSource before now (Err (fault_at f offset))
+header_counts before now car.ReadFault offset cause = cause
+header_counts before now car.NoMemory offset cause = cause
+header_counts before now car.Truncated offset cause = cause
+header_counts before now car.BadHeader offset cause = cause
+header_counts before now (car.BadVersion version) offset cause = cause
+header_counts before now car.ZeroSection offset cause = cause
+header_counts before now car.TooLarge offset cause = cause
+header_counts before now car.BadCid offset cause = cause
+header_counts before now car.BadLength offset cause = cause
+
+-- why the header ends an import
+header_ends : (input : Option (List ℕ)) (f : CarFault) (offset : ℕ) → offset ≡ 0 → Blames StartFault input f → EndsReading input [] [] [] (fault_at f offset)
+header_ends input car.ReadFault offset at blames = tt
+header_ends input car.NoMemory offset at blames = tt
+header_ends input car.Truncated offset at blames = (refl, inr (refl, at, blames))
+header_ends input car.BadHeader offset at blames = (refl, inr (refl, at, blames))
+header_ends input (car.BadVersion version) offset at blames = (refl, inr (refl, at, blames))
+header_ends input car.ZeroSection offset at blames = (refl, inr (refl, at, blames))
+header_ends input car.TooLarge offset at blames = (refl, inr (refl, at, blames))
+header_ends input car.BadCid offset at blames = (refl, inr (refl, at, blames))
+header_ends input car.BadLength offset at blames = (refl, inr (refl, at, blames))
+
+module _ {D : Type 0} {disk : Ghosts D} (wants : Bool) (input : Option (List ℕ)) (was : D) (imp : Importer D disk) where
+  -- the header is refused
+  pub header_refused : (f : CarFault) (offset : ℕ) → offset ≡ 0 → Blames StartFault input f → Putting was imp [] [] → IsImport (Story was imp.core) wants input (Err (fault_at f offset))
+  header_refused f offset at blames putting = record {
+    view = imp.view;
+    roots = [];
+    sections = [];
+    left = [];
+    puts = putting.puts;
+    last = [];
+    did = subst (λ h. Story was imp.core (opened imp.view ∷ h)) (sym (append-nil putting.puts)) putting.story;
+    read = inl refl;
+    are_puts = putting.are_puts;
+    reason = inr (inl (refl, header_ends input f offset at blames));
+  }
+
+  -- the import ended before its sections were all put
+  pub early : (fault : ImportFault) → Ended input was imp fault → IsImport (Story was imp.core) wants input (Err fault)
+  early fault ends = record {
+    view = imp.view;
+    roots = ends.roots;
+    sections = ends.sections;
+    left = ends.left;
+    puts = ends.puts;
+    last = ends.last;
+    did = ends.story;
+    read = ends.read;
+    are_puts = ends.are_puts;
+    reason = ⊎_elim (λ by_put. inl by_put) (λ by_car. inr (inl by_car)) ends.reason;
+  }
+
+module _ {D : Type 0} {disk : Ghosts D} (input : Option (List ℕ)) (was : D) (imp : Importer D disk) (roots : List (List ℕ)) (read : WasRead input was imp roots) where
+  -- no head is set
+  pub headless : (wants : Bool) (done : Imported) → wants ≡ false → done.sections ≡ imp.sections → done.new ≡ imp.new_blocks → done.height ≡ None → IsImport (Story was imp.core) wants input (Ok done)
+  headless wants done is sections new height = record {
+    view = imp.view;
+    roots = roots;
+    sections = read.sections;
+    left = [];
+    puts = read.putting.puts;
+    last = [];
+    did = subst (λ h. Story was imp.core (opened imp.view ∷ h)) (sym (append-nil read.putting.puts)) read.putting.story;
+    read = all_read input roots read.sections read.whole;
+    are_puts = read.putting.are_puts;
+    reason = (refl, read.whole, sections ∙ read.count, new ∙ read.putting.new_is, inl (is, refl, height));
+  }
+
+  module _ (wants : Bool) (is : wants ≡ true) (core : SplitCore D disk) (reply : HeadReply)
+      (told : IsTrue disk.told → (s : State) (doubt : Option Record) → StandsFor imp.core s doubt → Steps imp.core core s doubt (call.SetHead roots) (answer.Head reply)) (made : Makes imp.core core (call.SetHead roots) (answer.Head reply)) where
+    story : Story was core (opened imp.view ∷ (read.putting.puts ++ entry (call.SetHead roots) (answer.Head reply) ∷ []))
+    story = story_more was imp.core core (opened imp.view ∷ read.putting.puts) (entry (call.SetHead roots) (answer.Head reply)) read.putting.story told made
+
+    -- the head is set
+    pub headed : (done : Imported) (height : ℕ) → reply ≡ head.Set height → done.sections ≡ imp.sections → done.new ≡ imp.new_blocks → done.height ≡ Some height → IsImport (Story was core) wants input (Ok done)
+    headed done height set sections new at = record {
+      view = imp.view;
+      roots = roots;
+      sections = read.sections;
+      left = [];
+      puts = read.putting.puts;
+      last = entry (call.SetHead roots) (answer.Head (head.Set height)) ∷ [];
+      did = subst (λ r. Story was core (opened imp.view ∷ (read.putting.puts ++ entry (call.SetHead roots) (answer.Head r) ∷ []))) set story;
+      read = all_read input roots read.sections read.whole;
+      are_puts = read.putting.are_puts;
+      reason = (refl, read.whole, sections ∙ read.count, new ∙ read.putting.new_is, inr (is, height, refl, at));
+    }
+
+    -- the head is refused
+    pub head_refused : (fault : ImportFault) → EndsHead reply fault → IsImport (Story was core) wants input (Err fault)
+    head_refused fault ends = record {
+      view = imp.view;
+      roots = roots;
+      sections = read.sections;
+      left = [];
+      puts = read.putting.puts;
+      last = entry (call.SetHead roots) (answer.Head reply) ∷ [];
+      did = story;
+      read = all_read input roots read.sections read.whole;
+      are_puts = read.putting.are_puts;
+      reason = inr (inr (is, refl, read.whole, reply, refl, ends));
+    }

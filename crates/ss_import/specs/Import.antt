@@ -1,0 +1,169 @@
+-- The calls of an import, as a history, and why it ends.
+--
+-- A view is opened. Then sections are put in it, group by group, each as soon as it is known that no more go with it. At last, where
+-- the CAR has no fault and all its sections were put, its roots may be set as head.
+use Rattle.std.specs.Prelude.{◌≡◌, ◌⊎◌, ℕ, ◌+◌, ◌-◌, ◌^◌, ◌<◌, ◌≤◌, min, Bool, true, false, List, [], ◌∷◌, ◌++◌, map, length, sum_by, Option, None, Some, if◌then◌else◌, Result, Ok, Err}
+use Rattle.std.specs.Option.{ForSome}
+use Rattle.ss_car.specs.Car.{Section, IsCar, StartFault}
+use Rattle.ss_car.specs.declared.fault.CarFault.{CarFault}
+use Rattle.ss_cbor.specs.declared.fault.CborKind.{CborKind}
+use Rattle.ss_disk.specs.Disk.{Rose}
+use Rattle.ss_model.specs.Lawful.{IsPairFault}
+use Rattle.ss_model.specs.declared.call.Call.{Call}
+use Rattle.ss_model.specs.declared.call.Call.TheVariants as call
+use Rattle.ss_model.specs.declared.call.Answer.{Answer}
+use Rattle.ss_model.specs.declared.call.Answer.TheVariants as answer
+use Rattle.ss_model.specs.declared.call.ViewReply.{ViewReply}
+use Rattle.ss_model.specs.declared.call.PutReply.{PutReply}
+use Rattle.ss_model.specs.declared.call.PutReply.TheVariants as put
+use Rattle.ss_model.specs.declared.call.HeadReply.{HeadReply}
+use Rattle.ss_model.specs.declared.call.HeadReply.TheVariants as head
+use Rattle.ss_model.specs.declared.call.Entry.{Entry}
+use Rattle.ss_import.specs.declared.fault.BlockFault.{BlockFault}
+use Rattle.ss_import.specs.declared.fault.BlockFault.TheVariants as block
+use Rattle.ss_import.specs.declared.fault.ImportFault.{ImportFault}
+use Rattle.ss_import.specs.declared.fault.ImportFault.TheVariants as import
+use Rattle.ss_import.specs.declared.importer.Imported.{Imported}
+
+-- ---- the calls
+
+-- an entry of an import, whose calls are those of client 0
+abbrev pub entry : Call → Answer → Entry
+entry call answer = record { client = 0; line = 0; call = call; answer = answer }
+
+abbrev pub pair_of : Section → List ℕ × List ℕ
+pair_of s = (s.cid, s.block)
+
+-- the bytes of a section's CID and its block
+abbrev pub pair_length : List ℕ × List ℕ → ℕ
+pair_length p = length p.0 + length p.1
+
+-- blocks that go into one put: no more than 256, with no more than 4,194,304 bytes, or one
+abbrev pub GoTogether : List (List ℕ × List ℕ) → Type 0
+GoTogether pairs = (length pairs ≤ 1) ⊎ ((length pairs ≤ 256) × (sum_by pair_length pairs ≤ 4194304))
+
+abbrev pub is_stored : Answer → Bool
+is_stored (answer.Put (put.Stored new)) = true
+is_stored _ = false
+
+abbrev pub new_of : Answer → ℕ
+new_of (answer.Put (put.Stored new)) = new
+new_of _ = 0
+
+-- the blocks of a put were stored, or one of them is refused; any other answer ends an import
+abbrev pub IsSettled : Answer → Type 0
+IsSettled (answer.Put (put.Stored new)) = Unit {0}
+IsSettled (answer.Put (put.TooBig n)) = Unit {0}
+IsSettled (answer.Put (put.UnknownHash i)) = Unit {0}
+IsSettled (answer.Put (put.Mismatch i)) = Unit {0}
+IsSettled (answer.Put (put.Malformed i kind place)) = Unit {0}
+IsSettled _ = ⊥
+
+-- the entry puts some sections, in this view
+abbrev pub IsPutOf : ℕ → List Section → Entry → Type 0
+IsPutOf v group e = GoTogether (map pair_of group) × (e ≡ entry (call.Put v (map pair_of group)) e.answer)
+
+-- The entries put sections in this view: each some that come next, and those that were stored are passed. What is left of the
+-- sections was not stored.
+abbrev pub ArePuts : ℕ → List Section → List Entry → List Section → Type 0
+ArePuts v sections [] left = left ≡ sections
+ArePuts v sections (e ∷ h) left =
+    (group : List Section) × (more : List Section) × (sections ≡ group ++ more) × IsPutOf v group e × IsSettled e.answer × ArePuts v (if is_stored e.answer then more else sections) h left
+
+-- the last entry puts some of these sections, and is answered so
+abbrev pub IsLastPut : ℕ → List Section → List Entry → PutReply → Type 0
+IsLastPut v left last reply =
+    (group : List Section) × (more : List Section) × (left ≡ group ++ more) × GoTogether (map pair_of group) × (last ≡ entry (call.Put v (map pair_of group)) (answer.Put reply) ∷ [])
+
+-- how many of the blocks that were stored were new
+abbrev pub new_in : List Entry → ℕ
+new_in [] = 0
+new_in (e ∷ h) = new_of e.answer + new_in h
+
+-- the last entry sets these roots as head, and is answered so
+abbrev pub IsLastHead : List (List ℕ) → List Entry → HeadReply → Type 0
+IsLastHead roots last reply = last ≡ entry (call.SetHead roots) (answer.Head reply) ∷ []
+
+-- ---- the CAR
+
+-- the bytes begin with a CAR of these roots and sections, which ends at this offset
+pub record BeginsWith (bytes : List ℕ) (roots : List (List ℕ)) (sections : List Section) (end : ℕ) : Type 0 where
+  pub front : List ℕ
+  pub rest : List ℕ
+  pub spelled : bytes ≡ front ++ rest
+  pub is_car : IsCar front roots sections None
+  pub end_is : end ≡ length front
+
+-- these sections were read, where the input exposes its bytes: none, or those behind the header
+abbrev pub AreRead : Option (List ℕ) → List (List ℕ) → List Section → Type 0
+AreRead input roots sections = (sections ≡ []) ⊎ ForSome input (λ bytes. (end : ℕ) × BeginsWith bytes roots sections end)
+
+-- the input is a CAR of these roots and sections
+abbrev pub IsWhole : Option (List ℕ) → List (List ℕ) → List Section → Type 0
+IsWhole input roots sections = ForSome input (λ bytes. IsCar bytes roots sections None)
+
+-- ---- why an import ends
+
+-- the block of a section is not stored for this fault; one that is too large was put alone, at last
+abbrev pub IsBlockFault : ℕ → List Entry → Section → BlockFault → Type 0
+IsBlockFault v puts s block.TooLarge = (n : ℕ) × (before : List Entry) × (puts ≡ before ++ entry (call.Put v (pair_of s ∷ [])) (answer.Put (put.TooBig n)) ∷ [])
+IsBlockFault v puts s block.UnknownHash = IsPairFault 0 (pair_of s) (put.UnknownHash 0)
+IsBlockFault v puts s block.Mismatch = IsPairFault 0 (pair_of s) (put.Mismatch 0)
+IsBlockFault v puts s block.Malformed = (kind : CborKind) × (place : ℕ) × IsPairFault 0 (pair_of s) (put.Malformed 0 kind place)
+
+-- a put ends the import, or one of its blocks does: these sections are left
+abbrev pub EndsPuts : ℕ → List Entry → List Section → List Entry → ImportFault → Type 0
+EndsPuts v puts left last import.NoMemory = (last ≡ []) ⊎ IsLastPut v left last put.NoMemory
+EndsPuts v puts left last import.DiskFault = IsLastPut v left last put.DiskFault
+EndsPuts v puts left last (import.LogFull file need room) = IsLastPut v left last (put.LogFull file need room)
+EndsPuts v puts left last (import.TableFull rows) = IsLastPut v left last (put.TableFull rows)
+EndsPuts v puts left last (import.BadBlock fault offset) = (last ≡ []) × (s : Section) × (more : List Section) × (left ≡ s ∷ more) × (offset ≡ s.offset) × IsBlockFault v puts s fault
+EndsPuts v puts left last _ = ⊥
+
+-- the CAR ends the import, once all sections before its fault were stored
+abbrev pub EndsReading : Option (List ℕ) → List (List ℕ) → List Section → List Section → ImportFault → Type 0
+EndsReading input roots sections left (import.BadCar fault offset) =
+    (left ≡ []) × (ForSome input (λ bytes. IsCar bytes roots sections (Some (record { fault = fault; offset = offset })))
+    ⊎ ((sections ≡ []) × (offset ≡ 0) × ForSome input (λ bytes. StartFault bytes fault)))
+EndsReading input roots sections left import.TooLong =
+    (left ≡ []) × (s : Section) × (end : ℕ) × (2 ^ 40 < end) × ForSome input (λ bytes. BeginsWith bytes roots (sections ++ s ∷ []) end)
+EndsReading input roots sections left import.ReadFault = Unit {0}
+EndsReading input roots sections left import.NoMemory = Unit {0}
+EndsReading input roots sections left _ = ⊥
+
+-- setting the roots as head ends the import
+abbrev pub EndsHead : HeadReply → ImportFault → Type 0
+EndsHead head.NoMemory fault = fault ≡ import.NoMemory
+EndsHead head.DiskFault fault = fault ≡ import.DiskFault
+EndsHead (head.LogFull file need room) fault = fault ≡ import.LogFull file need room
+EndsHead (head.Set height) fault = ⊥
+EndsHead reply fault = fault ≡ import.BadHead reply
+
+-- Why an import ends so: these sections were read, and these of them are left; the last entry stands behind the settled puts.
+abbrev pub HasReason : Bool → Option (List ℕ) → List (List ℕ) → List Section → List Section → ℕ → List Entry → List Entry → Result Imported ImportFault → Type 0
+HasReason wants input roots sections left v puts last (Ok done) =
+    (left ≡ []) × IsWhole input roots sections × (done.sections ≡ length sections) × (done.new ≡ min (new_in puts) (2 ^ 64 - 1))
+    × (((wants ≡ false) × (last ≡ []) × (done.height ≡ None)) ⊎ ((wants ≡ true) × (height : ℕ) × IsLastHead roots last (head.Set height) × (done.height ≡ Some height)))
+HasReason wants input roots sections left v puts last (Err fault) =
+    EndsPuts v puts left last fault
+    ⊎ (((last ≡ []) × EndsReading input roots sections left fault)
+    ⊎ ((wants ≡ true) × (left ≡ []) × IsWhole input roots sections × (reply : HeadReply) × IsLastHead roots last reply × EndsHead reply fault))
+
+-- What an import of this input did. Its entries, of which this holds: a view was opened, and then sections were put and perhaps the
+-- roots were set as head.
+pub record IsImport (Did : List Entry → Type 0) (wants : Bool) (input : Option (List ℕ)) (result : Result Imported ImportFault) : Type 0 where
+  pub view : ℕ
+  pub roots : List (List ℕ)
+  pub sections : List Section
+  pub left : List Section
+  pub puts : List Entry
+  pub last : List Entry
+  pub did : Did (entry call.OpenView (answer.View (ViewReply.Opened view)) ∷ (puts ++ last))
+  pub read : AreRead input roots sections
+  pub are_puts : ArePuts view sections puts left
+  pub reason : HasReason wants input roots sections left view puts last result
+
+-- the source's count of faults rose where the import ended by it, and stayed in every other case
+abbrev pub CountsSource : ℕ → ℕ → Result Imported ImportFault → Type 0
+CountsSource before now (Err import.ReadFault) = Rose before now
+CountsSource before now _ = now ≡ before

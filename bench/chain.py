@@ -7,8 +7,13 @@ At each height of the chain stands a leaf of 16 to 64 bytes, raw under sha2-256,
 the state root, the AMT of the messages, the messages and the header, which has the header below for its parent.
 """
 import hashlib
+import os
 import random
 import sys
+
+sys.path.append(os.path.join(os.path.dirname(os.path.abspath(__file__)), os.pardir, "tests"))
+
+from formats import ARRAY, NUMBER, cbor_head, cbor_link, varint
 
 RAW, DAG_CBOR = b"\x01\x55\x12\x20", b"\x01\x71\xa0\xe4\x02\x20"
 RAW_LENGTH = 4096
@@ -19,29 +24,8 @@ FACTOR, ADDEND, MODULUS = 6_364_136_223_846_793_005, 1_442_695_040_888_963_407, 
 NO_BYTES, NO_ITEMS, ZERO = b"\x40", b"\x80", b"\x00"
 
 
-def varint(number):
-    groups = []
-    while number >= 128:
-        groups.append(number & 127 | 128)
-        number >>= 7
-    return bytes([*groups, number])
-
-
-def number_item(number):
-    """The item of a number, in its shortest form."""
-    if number < 24:
-        return bytes([number])
-    size = next(each for each in (1, 2, 4, 8) if number < 1 << 8 * each)
-    return bytes([23 + size.bit_length()]) + number.to_bytes(size, "big")
-
-
 def array(*items):
-    """An array of fewer than 24 items."""
-    return bytes([0x80 + len(items)]) + b"".join(items)
-
-
-def link(cid):
-    return b"\xd8\x2a\x58" + bytes([1 + len(cid)]) + b"\0" + cid
+    return cbor_head(ARRAY, len(items)) + b"".join(items)
 
 
 def raw(data):
@@ -58,13 +42,14 @@ def node(*items):
 def amt(*values):
     """The root of an AMT of height 0 of no link or one."""
     bitmap = b"\x41" + bytes([len(values)])
-    return node(ZERO, number_item(len(values)), array(bitmap, NO_ITEMS, array(*map(link, values))))
+    return node(ZERO, cbor_head(NUMBER, len(values)), array(bitmap, NO_ITEMS, array(*map(cbor_link, values))))
 
 
 def header(height, parents, state, receipts, messages):
     """A header, whose other items are empty."""
-    return node(NO_BYTES, NO_ITEMS, NO_ITEMS, NO_ITEMS, NO_ITEMS, array(*map(link, parents)), NO_BYTES, number_item(height), link(state),
-                link(receipts), link(messages), NO_BYTES, ZERO, NO_BYTES, ZERO, NO_BYTES)
+    return node(NO_BYTES, NO_ITEMS, NO_ITEMS, NO_ITEMS, NO_ITEMS, array(*map(cbor_link, parents)), NO_BYTES,
+                cbor_head(NUMBER, height), cbor_link(state), cbor_link(receipts), cbor_link(messages),
+                NO_BYTES, ZERO, NO_BYTES, ZERO, NO_BYTES)
 
 
 def chain(number, tipsets):
@@ -74,8 +59,8 @@ def chain(number, tipsets):
     for height in range(tipsets):
         leaf = raw(height.to_bytes(8, "big") + number.to_bytes(8, "big") + bytes([height & 255]) * (number % 49))
         leaves = [leaf[0], *leaves[:1]]
-        state, values = node(number_item(height), array(*map(link, leaves))), amt(leaf[0])
-        messages = node(link(values[0]), link(empty[0]))
+        state, values = node(cbor_head(NUMBER, height), array(*map(cbor_link, leaves))), amt(leaf[0])
+        messages = node(cbor_link(values[0]), cbor_link(empty[0]))
         top = header(height, parents, state[0], empty[0], messages[0])
         blocks += [leaf, state, values, messages, top]
         parents, number = [top[0]], (number * FACTOR + ADDEND) % MODULUS
@@ -90,7 +75,7 @@ def raw_blocks(seed, count):
 
 def write_car(file, blocks, roots=()):
     """Writes a CAR with these roots, of which there are fewer than 24, and a section for each block."""
-    start = b"\xa2\x65roots" + array(*map(link, roots)) + b"\x67version\x01"
+    start = b"\xa2\x65roots" + array(*map(cbor_link, roots)) + b"\x67version\x01"
     file.write(varint(len(start)) + start)
     for cid, data in blocks:
         file.write(varint(len(cid) + len(data)) + cid + data)

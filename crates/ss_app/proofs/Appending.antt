@@ -3,7 +3,7 @@ use Rattle.std.proofs.Common.{ℕ, List, [], ◌++◌, Option, Some, None, Resul
 use Rattle.std.proofs.lemmas.List.{append-nil}
 use Rattle.std.specs.Io.KnownBytes.{Appends, Keeps}
 use Rattle.ss_io.proofs.Told.{Appends-none}
-use Rattle.ss_io.specs.Written.{AppendsFront, PutAppends}
+use Rattle.ss_io.specs.Streams.{AppendsFront, PutAppends}
 
 pub appends_none : (w : Option (List ℕ)) → Appends w w []
 appends_none None = tt

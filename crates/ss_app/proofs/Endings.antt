@@ -3,7 +3,7 @@ use Rattle.std.proofs.Common.{◌≡◌, ◌⊎◌, inl, inr, Bool, true, false,
 use Rattle.std.specs.Prelude.{IsTrue}
 use Rattle.std.specs.List.{list_any}
 use Rattle.std.proofs.lemmas.List.{append-nil}
-use Rattle.ss_io.specs.Written.{AppendsFront}
+use Rattle.ss_io.specs.Streams.{AppendsFront}
 use Rattle.ss_disk.specs.declared.disk.Disk.{Ghosts}
 use Rattle.ss_disk.specs.Disk.{Same}
 use Rattle.ss_disk.specs.Calls.{Goes}
@@ -18,12 +18,11 @@ use Rattle.ss_app.specs.declared.ending.Ending.{Ending}
 use Rattle.ss_app.specs.declared.ending.Ending.TheVariants.{Done, NoMemory, BadScript}
 use Rattle.ss_app.specs.declared.ending.Ending.TheVariants as ends
 use Rattle.ss_app.specs.Ending.{line_of, status_of, ending_of_open}
-use Rattle.ss_history.specs.History.{IsFulfilled, faults_in, is_refused}
+use Rattle.ss_history.specs.Story.{IsFulfilled, faults_in, is_refused, IsLegalFrom}
 use Rattle.ss_app.specs.Outcome.{Reads, Traced, CallsMade, HasReason, CountsSource, CountsDisk, IsWhole, IsValidTrace}
 use Rattle.ss_app.specs.World.{Says}
-use Rattle.ss_history.specs.Story.{IsLegalFrom}
 use Rattle.ss_script.specs.Views.{no_views}
-use Rattle.ss_app.specs.Run.{InOrder}
+use Rattle.ss_app.specs.Progress.{InOrder}
 use Rattle.ss_app.specs.World.{World}
 use Rattle.ss_app.proofs.Appending.{front_of_more, front_whole}
 use Rattle.ss_history.proofs.Fulfilled.{fulfilled, no_faults, err_or_ok, oks}

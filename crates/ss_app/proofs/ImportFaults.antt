@@ -2,7 +2,7 @@
 use Rattle.std.proofs.Common.{◌≡◌, ⊎_elim, ℕ, ◌+◌, Bool, false, List, [], ◌∷◌, ◌++◌, Result, Ok, Err, refl, sym, ap, ◌∙◌, arith}
 use Rattle.std.specs.Prelude.{if◌then◌else◌, Option}
 use Rattle.ss_car.specs.Car.{Section}
-use Rattle.ss_history.specs.History.{faults_in}
+use Rattle.ss_history.specs.Story.{faults_in}
 use Rattle.ss_import.specs.Import.{IsImport, ArePuts, IsSettled, is_stored, EndsPuts, EndsReading, EndsHead, IsLastHead, HasReason, entry}
 use Rattle.ss_import.specs.declared.fault.ImportFault.{ImportFault}
 use Rattle.ss_import.specs.declared.fault.ImportFault.TheVariants as import

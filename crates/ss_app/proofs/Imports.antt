@@ -12,8 +12,7 @@ use Rattle.ss_model.specs.declared.call.Entry.{Entry}
 use Rattle.ss_core.specs.Calls.{Steps}
 use Rattle.ss_core.specs.StandsFor.{StandsFor}
 use Rattle.ss_core.specs.declared.split_core.SplitCore.{SplitCore}
-use Rattle.ss_history.specs.Story.{Story, IsHistory}
-use Rattle.ss_history.specs.History.{AreCounted}
+use Rattle.ss_history.specs.Story.{Story, IsHistory, AreCounted}
 use Rattle.ss_history.proofs.Stories.{history_of}
 use Rattle.ss_open.specs.Opening.{Opened, Opens}
 use Rattle.ss_import.specs.Import.{IsImport, CountsSource, entry}

@@ -23,7 +23,7 @@ use Rattle.ss_app.proofs.ImportFaults.{faults_of, import_faults}
 use Rattle.ss_app.specs.Outcome.{Traced, Inited, Writes, Ran, HasReason, HasInitReason, CountsSource, CountsDisk, AsksFor, RefusesStore, RefusesInit, IsFreeOfDisk, IsValidInit, TellsFaults}
 use Rattle.ss_app.specs.World.{Says}
 use Rattle.ss_app.specs.World.{Output, World}
-use Rattle.ss_history.specs.History.{AreCounted, faults_in}
+use Rattle.ss_history.specs.Story.{AreCounted, faults_in}
 use Rattle.ss_app.specs.declared.words.Command.{Command}
 use Rattle.ss_app.specs.declared.words.Command.TheVariants.{Init, Trace, Import, Info, Help, Version}
 use Rattle.ss_open.proofs.Openings.{stands_apart}

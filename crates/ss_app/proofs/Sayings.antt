@@ -12,7 +12,7 @@ use Rattle.ss_open.specs.declared.fault.OpenFault.TheVariants as opening
 use Rattle.ss_open.specs.Opening.{Made, Inits}
 use Rattle.ss_app.specs.declared.ending.Ending.TheVariants.{Done, NoMemory, DiskFault, StoreExists}
 use Rattle.ss_app.specs.Ending.{line_of, status_of, ending_of_open}
-use Rattle.ss_history.specs.History.{AreCounted}
+use Rattle.ss_history.specs.Story.{AreCounted}
 use Rattle.ss_app.specs.Outcome.{Inited}
 use Rattle.ss_app.specs.World.{Says}
 use Rattle.ss_app.specs.World.{Output, World}

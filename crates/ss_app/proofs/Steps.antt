@@ -14,9 +14,7 @@ use Rattle.ss_script.specs.Views.{no_views, client_views, resolved, closing_view
 use Rattle.ss_script.specs.Text.{text_from, entry_text}
 use Rattle.ss_app.specs.declared.ending.Ending.TheVariants.{Done, NoMemory}
 use Rattle.ss_app.specs.Outcome.{CallsMade}
-use Rattle.ss_app.specs.Printing.{PrintsUnless}
-use Rattle.ss_app.specs.Progress.{Trail, Progress, Cut, Stepped, views_behind}
-use Rattle.ss_app.specs.Run.{IsEntryOf, InOrder}
+use Rattle.ss_app.specs.Progress.{PrintsUnless, Trail, Progress, Cut, Stepped, views_behind, IsEntryOf, InOrder}
 use Rattle.ss_app.specs.World.{Output}
 use Rattle.ss_history.specs.Story.{Story}
 use Rattle.ss_history.proofs.Stories.{history_of}

@@ -2,18 +2,13 @@
 use Rattle.std.specs.Prelude.{ℕ, List, [], ◌∷◌, ◌++◌, codes, Result, Ok, Err}
 use Rattle.ss_io.specs.declared.whole.ReadAllFault.{ReadAllFault}
 use Rattle.ss_io.specs.declared.whole.ReadAllFault.TheVariants as input
-use Rattle.ss_script.specs.declared.fault.ScriptFault.{ScriptFault}
+use Rattle.ss_script.specs.{declared.fault.ScriptFault.ScriptFault, Fault.kind_number, Text.{numbers_text, head_reply_text, height_text, info_text, settings_text}}
 use Rattle.ss_script.specs.declared.fault.ScriptFault.TheVariants as script
-use Rattle.ss_script.specs.Fault.{kind_number}
-use Rattle.ss_car.specs.Fault.{number_of}
+use Rattle.ss_car.specs.Car.{number_of}
 use Rattle.ss_model.specs.declared.call.Info.{Info}
-use Rattle.ss_import.specs.Fault.{block_number}
-use Rattle.ss_import.specs.declared.importer.Imported.{Imported as Import}
-use Rattle.ss_import.specs.declared.fault.ImportFault.{ImportFault}
+use Rattle.ss_import.specs.{Import.block_number, declared.importer.Imported.Imported as Import, declared.fault.ImportFault.ImportFault}
 use Rattle.ss_import.specs.declared.fault.ImportFault.TheVariants as import
-use Rattle.ss_script.specs.Text.{numbers_text, head_reply_text, height_text, info_text, settings_text}
-use Rattle.ss_app.specs.declared.ending.Ending.{Ending}
-use Rattle.ss_app.specs.declared.ending.Ending.TheVariants.{Done, Usage, NoMemory, ReadFault, DiskFault, NoStore, StoreExists, Damaged, BadScript, TooLong, NotImported, Imported, Informed}
+use Rattle.ss_app.specs.{declared.ending.Ending.Ending, declared.ending.Ending.TheVariants.{Done, Usage, NoMemory, ReadFault, DiskFault, NoStore, StoreExists, Damaged, BadScript, TooLong, NotImported, Imported, Informed}}
 use Rattle.ss_open.specs.declared.fault.OpenFault.{OpenFault}
 use Rattle.ss_open.specs.declared.fault.OpenFault.TheVariants as opening
 

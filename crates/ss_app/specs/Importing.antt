@@ -1,25 +1,13 @@
 -- What a run of `import` comes to, and one of `info`.
 use Rattle.std.specs.Prelude.{◌≡◌, ◌⊎◌, ℕ, Bool, List, Some, Result, Err, IsTrue}
 use Rattle.ss_car.specs.Car.{Section}
-use Rattle.ss_disk.specs.declared.disk.Disk.{Ghosts}
-use Rattle.ss_disk.specs.Disk.{Same, Rose}
-use Rattle.ss_disk.specs.Calls.{Goes}
-use Rattle.ss_model.specs.State.{State}
-use Rattle.ss_model.specs.Lawful.{info_of}
-use Rattle.ss_model.specs.declared.call.Info.{Info}
+use Rattle.ss_disk.specs.{declared.disk.Disk.Ghosts, Disk.{Same, Rose}, Calls.Goes}
+use Rattle.ss_model.specs.{State.State, Lawful.info_of, declared.call.Info.Info}
 use Rattle.ss_core.specs.StandsFor.{HasState}
-use Rattle.ss_history.specs.History.{AreCounted}
-use Rattle.ss_history.specs.Story.{HasStore, IsHistory}
-use Rattle.ss_open.specs.Opening.{Opened, Opens}
-use Rattle.ss_open.specs.declared.fault.OpenFault.{OpenFault}
-use Rattle.ss_import.specs.Import.{IsImport, CountsSource}
-use Rattle.ss_import.specs.Valid.{IsImportable}
-use Rattle.ss_import.specs.declared.importer.Imported.{Imported}
-use Rattle.ss_import.specs.declared.fault.ImportFault.{ImportFault}
-use Rattle.ss_app.specs.declared.ending.Ending.{Ending}
-use Rattle.ss_app.specs.declared.ending.Ending.TheVariants.{Informed}
-use Rattle.ss_app.specs.Ending.{status_of, line_of, ending_of_open, ending_of_outcome}
-use Rattle.ss_app.specs.World.{World, Says}
+use Rattle.ss_history.specs.Story.{AreCounted, HasStore, IsHistory}
+use Rattle.ss_open.specs.{Opening.{Opened, Opens}, declared.fault.OpenFault.OpenFault}
+use Rattle.ss_import.specs.{Import.{IsImport, CountsSource, IsImportable}, declared.importer.Imported.Imported, declared.fault.ImportFault.ImportFault}
+use Rattle.ss_app.specs.{declared.ending.Ending.Ending, declared.ending.Ending.TheVariants.Informed, Ending.{status_of, line_of, ending_of_open, ending_of_outcome}, World.{World, Says}}
 
 -- the store was not opened, for this fault, and the source was not read
 pub record IsNotOpened {D : Type 0} (disk : Ghosts D) (old new : World D) (ending : Ending) : Type 0 where
@@ -55,8 +43,7 @@ pub record InfoRan {D : Type 0} (disk : Ghosts D) (old new : World D) (status : 
   pub reason : IsNotOpened disk old new ending ⊎ IsInformed disk old new ending
   pub said : Says old.sink new.sink (line_of ending) (status_of ending) status
 
--- Nothing stands in the way of a run of `import`: the disk has a store, the CAR may be imported into each state that the file has, and no
--- count of faults rises.
+-- Nothing stands in the way of a run of `import`: the disk has a store, the CAR may go into each state of it, and no count of faults rises.
 pub record IsValidImport {D : Type 0} (wants : Bool) (disk : Ghosts D) (old new : World D) (bytes : List ℕ) (roots : List (List ℕ)) (sections : List Section) : Type 0 where
   pub told : old.source.left ≡ Some bytes
   pub source : ¬ Rose old.source.faults new.source.faults

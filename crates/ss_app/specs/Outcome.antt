@@ -4,38 +4,16 @@
 -- the front. What is written is what was printed of the history and then the line of the ending, and the status is the ending's.
 -- Where the sink failed the status is 5, and a prefix of these bytes is written; all else stands. The other commands have an ending
 -- alone.
-use Rattle.std.specs.Prelude.{◌≡◌, ◌⊎◌, ℕ, Bool, true, false, ◌<◌, ◌≤◌, List, [], ◌++◌, length, codes, Option, Some, Result, Ok, Err, IsErr, IsTrue}
-use Rattle.std.specs.Option.{ForSome}
-use Rattle.std.specs.Io.KnownBytes.{Appends, IsAtEnd}
-use Rattle.ss_disk.specs.declared.disk.Disk.{Ghosts}
-use Rattle.ss_disk.specs.Disk.{Same, Evolves, Rose}
-use Rattle.ss_disk.specs.Calls.{Goes}
+use Rattle.std.specs.{Prelude.{◌≡◌, ◌⊎◌, ℕ, Bool, true, false, ◌<◌, ◌≤◌, List, [], ◌++◌, length, codes, Option, Some, Result, Ok, Err, IsErr, IsTrue}, Option.ForSome, Io.KnownBytes.{Appends, IsAtEnd}}
+use Rattle.ss_disk.specs.{declared.disk.Disk.Ghosts, Disk.{Same, Evolves, Rose}, Calls.Goes}
 use Rattle.ss_records.specs.declared.record.Config.{Config as Settings}
 use Rattle.ss_hot.specs.File.{HasSettings}
-use Rattle.ss_model.specs.State.{State}
-use Rattle.ss_model.specs.History.{Legal}
-use Rattle.ss_model.specs.declared.call.Entry.{Entry}
+use Rattle.ss_model.specs.{State.State, History.Legal, declared.call.Entry.Entry}
 use Rattle.ss_core.specs.StandsFor.{HasState}
 use Rattle.ss_open.specs.Opening.{HasNoStore, IsDamagedStore, AreEmptyBeside, IsNewStore}
-use Rattle.ss_script.specs.declared.TheConstants.{CLIENTS}
-use Rattle.ss_script.specs.declared.line.Line.{Line}
-use Rattle.ss_script.specs.declared.fault.ScriptFault.TheVariants.{Bad}
-use Rattle.ss_script.specs.Script.{script_of}
-use Rattle.ss_script.specs.Text.{text}
-use Rattle.ss_script.specs.Views.{no_views}
-use Rattle.ss_app.specs.declared.TheConstants.{SCRIPT_BYTES}
-use Rattle.ss_app.specs.declared.help.TheConstants.{HELP, VERSION}
-use Rattle.ss_app.specs.declared.words.Command.{Command}
-use Rattle.ss_app.specs.declared.words.Command.TheVariants.{Init, Trace, Import, Info, Help, Version}
-use Rattle.ss_app.specs.declared.ending.Ending.{Ending}
-use Rattle.ss_app.specs.declared.ending.Ending.TheVariants.{Done, Usage, NoMemory, ReadFault, DiskFault, NoStore, StoreExists, Damaged, BadScript, TooLong}
-use Rattle.ss_app.specs.Ending.{status_of, line_of}
-use Rattle.ss_history.specs.History.{AreCounted, HavePlace, IsFulfilled}
-use Rattle.ss_history.specs.Story.{HasStore, IsHistory}
-use Rattle.ss_app.specs.Input.{IsTooLong}
-use Rattle.ss_app.specs.Run.{InOrder}
-use Rattle.ss_app.specs.Importing.{ImportRan, InfoRan}
-use Rattle.ss_app.specs.World.{Input, Output, World, Says}
+use Rattle.ss_script.specs.{declared.TheConstants.CLIENTS, declared.line.Line.Line, declared.fault.ScriptFault.TheVariants.Bad, Script.script_of, Text.text, Views.no_views}
+use Rattle.ss_app.specs.{declared.TheConstants.SCRIPT_BYTES, declared.help.TheConstants.{HELP, VERSION}, declared.words.Command.Command, declared.words.Command.TheVariants.{Init, Trace, Import, Info, Help, Version}, declared.ending.Ending.Ending, declared.ending.Ending.TheVariants.{Done, Usage, NoMemory, ReadFault, DiskFault, NoStore, StoreExists, Damaged, BadScript, TooLong}, Ending.{status_of, line_of}, World.{IsTooLong, Input, Output, World, Says}, Progress.InOrder, Importing.{ImportRan, InfoRan}}
+use Rattle.ss_history.specs.Story.{AreCounted, HavePlace, IsFulfilled, HasStore, IsHistory}
 
 -- the script is no longer than it may be, and asks for these lines
 abbrev pub AsksFor : List ℕ → List Line → Type 0
@@ -123,8 +101,7 @@ HasInitReason disk was is settings DiskFault = Unit {0}
 HasInitReason disk was is settings StoreExists = IsTrue disk.told → (committed : Settings) × HasSettings (disk.files was 0) committed
 HasInitReason disk was is settings _ = ⊥
 
--- A run of `init`: where there is a store it changes no file. Each image since its start has the hot log's file as an image then had
--- it, or all other files are empty logs.
+-- A run of `init`: a store is left as it is; each image since has the hot log's file as one then had it, or all other files are empty logs.
 pub record Inited {D : Type 0} (disk : Ghosts D) (old new : World D) (settings : Settings) (status : ℕ) : Type 0 where
   pub ending : Ending
   pub reason : HasInitReason disk old.disk new.disk settings ending
@@ -193,8 +170,7 @@ pub record CallsMade {D : Type 0} (disk : Ghosts D) (was is : D) (lines : List L
 abbrev pub IsFree : ℕ → Type 0
 IsFree status = (status ≡ 3) ⊎ ((status ≡ 4) ⊎ (status ≡ 5))
 
--- Statuses 9 and 13 come just where the script has a bad line or is too long, but for out of memory and faults of the
--- streams: 3, 4 and 5.
+-- Statuses 9 and 13 come just where the script is bad or too long, but for out of memory and faults of the streams: 3, 4 and 5.
 pub record RefusesScript (script : List ℕ) (status : ℕ) : Type 0 where
   pub bad : status ≡ 9 → (length script ≤ SCRIPT_BYTES) × IsErr (script_of CLIENTS script)
   pub long : status ≡ 13 → SCRIPT_BYTES < length script
@@ -205,8 +181,7 @@ pub record RefusesScript (script : List ℕ) (status : ℕ) : Type 0 where
 abbrev pub IsFreeOfDisk : ℕ → Type 0
 IsFreeOfDisk status = IsFree status ⊎ (status ≡ 6)
 
--- Where the script is good, statuses 7 and 8 come just where the file has no store, or one that is damaged, but for out of memory
--- and faults of the streams and the disk.
+-- Of a good script statuses 7 and 8 come just where there is no store, or a damaged one, but for out of memory and faults of streams and disk.
 pub record RefusesStore (file : List ℕ) (status : ℕ) : Type 0 where
   pub no_store : status ≡ 7 → HasNoStore file
   pub damaged : status ≡ 8 → (at : ℕ) × IsDamagedStore file at

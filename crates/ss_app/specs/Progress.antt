@@ -1,17 +1,25 @@
--- How far a run of `trace` has come: the entries so far, what they left of the store, and what was printed of them.
-use Rattle.std.specs.Prelude.{◌≡◌, ℕ, Bool, true, false, List, [], ◌∷◌, ◌++◌, length, Result, Ok, Err}
-use Rattle.std.specs.Io.KnownBytes.{Appends}
-use Rattle.ss_cid.specs.declared.memory.NoMemory as no_memory
-use Rattle.ss_disk.specs.declared.disk.Disk.{Ghosts}
-use Rattle.ss_disk.specs.Disk.{Rose}
+-- The entries of a run of `trace`, and how far it has come: what they left of the store, and what was printed of them.
+use Rattle.std.specs.{Prelude.{◌≡◌, ℕ, Bool, true, false, List, [], ◌∷◌, ◌++◌, length, Result, Ok, Err}, Io.KnownBytes.Appends}
+use Rattle.ss_disk.specs.{declared.disk.Disk.Ghosts, Disk.Rose}
 use Rattle.ss_model.specs.declared.call.Entry.{Entry}
 use Rattle.ss_core.specs.declared.split_core.SplitCore.{SplitCore}
-use Rattle.ss_script.specs.declared.line.Line.{Line}
-use Rattle.ss_script.specs.Text.{text}
-use Rattle.ss_script.specs.Views.{no_views, after_line}
+use Rattle.ss_script.specs.{declared.line.Line.Line, Text.text, Views.{no_views, after_line, client_views, resolved}}
 use Rattle.ss_history.specs.Story.{Story}
-use Rattle.ss_app.specs.Run.{InOrder}
 use Rattle.ss_app.specs.World.{Output}
+use Rattle.ss_io.specs.Streams.{AppendsFront}
+use Rattle.ss_cid.specs.declared.memory.NoMemory as no_memory
+
+-- the entry is the line's, where the clients have these views
+pub record IsEntryOf (views : List (List ℕ)) (line : Line) (e : Entry) : Type 0 where
+  pub client : e.client ≡ line.client
+  pub line_is : e.line ≡ line.line
+  pub call_is : e.call ≡ resolved (client_views views line.client) line.call
+
+-- where the clients have these views, the entries are those of the lines, each once, in order
+abbrev pub InOrder : List (List ℕ) → List Line → List Entry → Type 0
+InOrder views [] [] = Unit {0}
+InOrder views (line ∷ lines) (e ∷ h) = IsEntryOf views line e × InOrder (after_line views line e.answer) lines h
+InOrder views _ _ = ⊥
 
 -- the clients' views after all entries, which are those of the lines
 abbrev pub views_behind : List (List ℕ) → List Line → List Entry → List (List ℕ)
@@ -48,3 +56,9 @@ pub record Cut {D : Type 0} {disk : Ghosts D} (was : D) (core : SplitCore D disk
 abbrev pub Stepped : {D : Type 0} {disk : Ghosts D} → D → SplitCore D disk → List (List ℕ) → ℕ → Bool → List Line → Output → Output → Result (Unit {0}) no_memory.NoMemory → Type 0
 Stepped was core views place refused made old new (Ok _) = Progress was core views place refused made old new
 Stepped was core views place refused made old new (Err _) = Cut was core refused made old new
+
+-- What printing a line leaves in a sink. The first answer is whether it refused one before, and gets no more; the second whether it has now.
+abbrev pub PrintsUnless : Bool → Output → Output → Bool → List ℕ → Type 0
+PrintsUnless true old new refused line = (refused ≡ true) × Appends old.written new.written [] × (new.faults ≡ old.faults)
+PrintsUnless false old new true line = AppendsFront old.written new.written line × Rose old.faults new.faults
+PrintsUnless false old new false line = Appends old.written new.written line × (new.faults ≡ old.faults)

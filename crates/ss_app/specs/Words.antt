@@ -8,20 +8,10 @@
 --     --version
 --
 -- A number is decimal, without a sign and without leading zeros, and within the range of its key. Words are counted from 0.
-use Rattle.std.specs.Prelude.{ℕ, ◌+◌, ◌-◌, ◌^◌, ◌==◌, ◌&&◌, nat_le, true, false, List, [], ◌∷◌, ◌++◌, if◌then◌else◌, length, take, drop, position, codes, Option, Some, None, Result, Ok, Err, option_map, unwrap_or}
-use Rattle.std.specs.Option.{option_and_then, option_map_or}
-use Rattle.std.specs.Fmt.{decimal}
-use Rattle.std.specs.Str.{bytes_eq}
-use Rattle.std.specs.Str.Parse.{digits_value}
-use Rattle.ss_records.specs.declared.record.Config.{Config}
-use Rattle.ss_records.specs.declared.record.Mode.{Mode}
-use Rattle.ss_records.specs.declared.record.Mode.TheVariants.{Discard}
-use Rattle.ss_records.specs.Record.{SettingsFit}
-use Rattle.ss_app.specs.declared.words.Command.{Command}
-use Rattle.ss_app.specs.declared.words.Command.TheVariants.{Init, Trace, Import, Info, Help, Version}
-use Rattle.ss_app.specs.declared.words.Key.{Key}
+use Rattle.std.specs.{Prelude.{ℕ, ◌+◌, ◌-◌, ◌^◌, ◌==◌, ◌&&◌, nat_le, true, false, List, [], ◌∷◌, ◌++◌, if◌then◌else◌, length, take, drop, position, codes, Option, Some, None, Result, Ok, Err, option_map, unwrap_or}, Option.{option_and_then, option_map_or}, Fmt.decimal, Str.bytes_eq, Str.Parse.digits_value}
+use Rattle.ss_records.specs.{declared.record.Config.Config, declared.record.Mode.Mode, declared.record.Mode.TheVariants.Discard, Record.SettingsFit}
+use Rattle.ss_app.specs.{declared.words.Command.Command, declared.words.Command.TheVariants.{Init, Trace, Import, Info, Help, Version}, declared.words.Key.Key, declared.words.Settings.Settings}
 use Rattle.ss_app.specs.declared.words.Key.TheVariants as key
-use Rattle.ss_app.specs.declared.words.Settings.{Settings}
 use Rattle.ss_script.specs.Fields.{is_number}
 
 -- the number of a value, where it is valid and within these bounds
@@ -132,8 +122,4 @@ words_of c =
 -- the settings of a store that is made are within their limits
 abbrev pub CommandFits : Command → Type 0
 CommandFits (Init config) = SettingsFit config
-CommandFits Trace = Unit {0}
-CommandFits (Import head) = Unit {0}
-CommandFits Info = Unit {0}
-CommandFits Help = Unit {0}
-CommandFits Version = Unit {0}
+CommandFits _ = Unit {0}

@@ -1,10 +1,8 @@
 //! How a run ends: its status, and the line that tells why.
 
 ghost use Rattle.std.specs.Prelude.{◌≡◌, [], ◌∷◌, ◌++◌, codes};
-ghost use Rattle.ss_io.specs.Causes.{HasCause};
-ghost use Rattle.ss_io.specs.Written.{PutAppends};
-ghost use Rattle.ss_script.specs.Text.{numbers_text, head_reply_text, height_text};
-ghost use Rattle.ss_script.specs.Writing.{Writes};
+ghost use Rattle.ss_io.specs.Streams.{HasCause, PutAppends};
+ghost use Rattle.ss_script.specs.Text.{numbers_text, head_reply_text, height_text, Writes};
 ghost use Rattle.ss_app.specs.Ending.{status_of, line_of, ending_of_outcome, import_status, import_line, imported_text, informed_text};
 
 use ss_import::{ImportFault, Imported};

@@ -3,7 +3,7 @@
 //! Contracts see a run as a source, a sink and a disk before it and after it (`specs/World.antt`), the words, and the
 //! status. Of `trace` it comes to a history of `ss_model` and an ending. The history is legal from the state that the file
 //! of the hot log had (`HasState` of `ss_core`), its entries are the lines of the script, each once, in order
-//! (`specs/Run.antt`), and its text is one line an entry (`Text.antt` of `ss_script`). The ending has a status and a last
+//! (`specs/Progress.antt`), and its text is one line an entry (`Text.antt` of `ss_script`). The ending has a status and a last
 //! line (`specs/Ending.antt`).
 //!
 //! The one contract is that of [`run_alone`], which `specs/Outcome.antt` spells: what is written is the printed text of

@@ -4,8 +4,7 @@ ghost use Rattle.std.specs.Prelude.{◌≡◌, ◌⊎◌, ◌∷◌, ◌++◌, �
 ghost use Rattle.ss_car.specs.Car.{Section};
 ghost use Rattle.ss_records.specs.declared.record.Config.{Config as Settings};
 ghost use Rattle.ss_records.specs.Record.{SettingsFit};
-ghost use Rattle.ss_io.specs.Causes.{HasCause};
-ghost use Rattle.ss_io.specs.Written.{PutAppends};
+ghost use Rattle.ss_io.specs.Streams.{HasCause, PutAppends};
 ghost use Rattle.ss_records.specs.declared.record.Record.{Record};
 ghost use Rattle.ss_model.specs.State.{State};
 ghost use Rattle.ss_model.specs.declared.call.Entry.{Entry};
@@ -18,8 +17,7 @@ ghost use Rattle.ss_app.specs.declared.words.Command.TheVariants as command;
 ghost use Rattle.ss_app.specs.Ending.{status_of, line_of};
 ghost use Rattle.ss_app.specs.Outcome.{Reads, CallsMade, Traced, Inited, Ran, TellsFaults, RefusesScript, RefusesStore, RefusesInit, IsValidTrace, IsValidInit, AsksFor};
 ghost use Rattle.ss_app.specs.Importing.{IsValidImport, IsValidInfo};
-ghost use Rattle.ss_app.specs.Printing.{PrintsUnless};
-ghost use Rattle.ss_app.specs.Progress.{Progress, Stepped};
+ghost use Rattle.ss_app.specs.Progress.{PrintsUnless, Progress, Stepped};
 ghost use Rattle.ss_history.specs.Story.{Story};
 ghost use Rattle.ss_app.specs.Words.{command_of};
 ghost use Rattle.ss_app.specs.World.{input, output, world, Says};
@@ -58,11 +56,12 @@ pub struct Exit<D> {
 /// writes the settings of the store and what it counts. `--help` and `--version` write what they name. An invalid word is found
 /// before anything else. Of `trace` a source that fails or holds more than `SCRIPT_BYTES` comes before a bad line, a bad line
 /// before the disk is touched, and what is wrong with the store before any call is made. A call that fails, out of memory, of
-/// room or for a fault of the disk, is an entry like any other. `import` ends at the first fault that it meets; the sections
-/// before that are kept, but for those that were read and not put yet where the source failed or memory ran out.
+/// room or for a fault of the disk, is an entry like any other. `import` ends at the first fault that it meets; where the CAR
+/// is at fault all sections before that are kept, and else those of the groups that were put.
 ///
-/// `trace` and `import` change no file but that of the hot log, and `trace` none before its first call; `info` changes none. `init` changes none where there is a store;
-/// where there is none, files may be emptied on status 6, and the store may be made on 5 and 6. Statuses:
+/// `trace` and `import` change no file but that of the hot log, and `trace` none before its first call; `info` changes none.
+/// `init` changes none where there is a store; where there is none, files may be emptied on status 6, and the store may be made on
+/// 5 and 6. Statuses:
 ///
 /// | status | why |
 /// |---|---|

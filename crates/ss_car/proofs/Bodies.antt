@@ -5,7 +5,7 @@ use Rattle.std.proofs.lemmas.List.{append-nil}
 use Rattle.ss_cid.specs.Varint.{varint}
 use Rattle.std.specs.Io.KnownBytes.{Consumes}
 use Rattle.ss_car.specs.Bodies.{HeaderFault, BodyFault, Blames}
-use Rattle.ss_car.specs.Car.{framed, IsHeader, UnframedFault, StartFault, SectionFault}
+use Rattle.ss_car.specs.Car.{framed, UnframedFault, StartFault, SectionFault}
 use Rattle.ss_car.specs.Car as car
 use Rattle.ss_car.specs.declared.fault.CarFault.{CarFault}
 use Rattle.ss_car.specs.declared.fault.CarFault.TheVariants.{NoMemory, BadHeader, BadVersion, ZeroSection, BadCid}

@@ -1,19 +1,19 @@
 -- A header is read exactly where the bytes are one.
 use Rattle.std.proofs.Common.{◌≡◌, inl, inr, ℕ, zero, suc, ◌+◌, ◌^◌, ◌<◌, ◌≤◌, Bool, true, false, cond, eqb, List, [], ◌∷◌, ◌++◌, length, map, codes, Option, Some, None, Result, Ok, refl, sym, ap, subst, ◌∙◌, arith, length-append}
+use Rattle.std.specs.Option.{option_or}
 use Rattle.std.specs.Prelude.{◌&&◌, nat_eq}
 use Rattle.std.specs.Cmp.Lexicographic.{pointwise}
 use Rattle.std.proofs.lemmas.Bool.{eqb-true}
 use Rattle.std.proofs.lemmas.List.{append-nil, nil_from_length, length-map}
 use Rattle.ss_cbor.specs.Item as item
-use Rattle.ss_cbor.specs.Item.{Part, items_in, IsPart}
-use Rattle.ss_cbor.specs.Parts.{AreParts}
+use Rattle.ss_cbor.specs.Item.{Part, items_in, IsPart, AreParts}
 use Rattle.ss_cbor.specs.Reading.{part_at}
 use Rattle.ss_cbor.specs.declared.fault.CborFault.{CborFault}
 use Rattle.ss_cbor.proofs.Numbers.{IsBytes}
 use Rattle.ss_cbor.proofs.Parts.{part_takes, part_again, IsPart-some}
 use Rattle.ss_car.specs.Car.{roots_pair, version_pair, IsHeader}
 use Rattle.ss_car.specs.HeaderReading.{as_pairs, as_key, two_pairs_from, key_from, link_from, links_from, roots_from, version_from, whole, roots_first, version_first, header_in}
-use Rattle.ss_cbor.specs.Options.{◌>>=◌, or_else}
+use Rattle.ss_cbor.specs.Options.{◌>>=◌}
 use Rattle.ss_cbor.specs.Reading.{as_count, as_number, as_link}
 
 -- ---- steps
@@ -178,7 +178,7 @@ version_first-at end bytes h read =
 pub header-is : (bytes : List ℕ) → IsBytes bytes → (h : List (List ℕ) × ℕ) → header_in bytes ≡ Some h → IsHeader bytes h.0 h.1
 unfolding header_in
 header-is bytes fits h read = by (roots_first (length bytes) bytes) refl read where
-  by : (first : Option (List (List ℕ) × ℕ)) → roots_first (length bytes) bytes ≡ first → or_else first (version_first (length bytes) bytes) ≡ Some h → IsHeader bytes h.0 h.1
+  by : (first : Option (List (List ℕ) × ℕ)) → roots_first (length bytes) bytes ≡ first → option_or first (version_first (length bytes) bytes) ≡ Some h → IsHeader bytes h.0 h.1
   by (Some x) is picked = inl (parts-spelled (length bytes) bytes (roots_then h) fits (roots_first-at (length bytes) bytes h (is ∙ picked)))
   by None is picked = inr (parts-spelled (length bytes) bytes (version_then h) fits (version_first-at (length bytes) bytes h picked))
 

@@ -13,7 +13,7 @@ use Rattle.ss_cid.proofs.Spelling.{varint_at-fits, varint_at-spelled}
 use Rattle.ss_cid.proofs.Varints.{Stands, Stands-varint_at}
 use Rattle.ss_cbor.proofs.Numbers.{IsBytes, IsBytes-left, IsBytes-right}
 use Rattle.ss_car.specs.Car as car
-use Rattle.ss_car.specs.Car.{framed, IsHeader, IsStart, IsSection, UnframedFault, StartFault, SectionFault, cut, long, no_length, too_large, body_cut}
+use Rattle.ss_car.specs.Car.{framed, IsHeader, IsStart, UnframedFault, StartFault, cut, long, no_length, too_large, body_cut}
 use Rattle.ss_car.specs.HeaderReading.{header_in}
 use Rattle.ss_car.specs.declared.fault.CarFault.{CarFault}
 use Rattle.ss_car.specs.declared.fault.CarFault.TheVariants.{Truncated, BadHeader, BadVersion, TooLarge, BadLength}

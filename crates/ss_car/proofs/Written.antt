@@ -5,8 +5,7 @@ use Rattle.std.proofs.lemmas.List.{append-nil}
 use Rattle.std.proofs.lemmas.List.Concat.{flat_map-cons}
 use Rattle.ss_cid.specs.Cid.{IsCid}
 use Rattle.ss_cbor.specs.Item as item
-use Rattle.ss_cbor.specs.Item.{Part, head}
-use Rattle.ss_cbor.specs.Parts.{AreParts}
+use Rattle.ss_cbor.specs.Item.{Part, head, AreParts}
 use Rattle.ss_car.specs.Car as car
 use Rattle.ss_car.specs.Car.{framed, roots_pair, version_pair, IsStart, AreSections, IsCar}
 use Rattle.ss_car.specs.Writing.{text_bytes, link_bytes, header_bytes, section_bytes, SectionFits, sections_from}

@@ -1,12 +1,8 @@
--- What is taken from the front of an input, where it exposes its bytes, and what is wrong with the bytes that a length counts.
-use Rattle.std.specs.Prelude.{◌≡◌, ℕ, ◌<◌, ◌^◌, List, [], ◌++◌, length, Option, Some, None, Err, ⊤, ◌∷◌, MatchOption, Result, MatchResult, ◌+◌, ◌≤◌, slice_index_or}
-use Rattle.std.specs.Io.KnownBytes.{Keeps, Consumes, IsAtEnd}
-use Rattle.ss_cid.specs.Cid.{cid_at}
-use Rattle.ss_cid.specs.declared.fault.CidFault.{CidFault}
-use Rattle.ss_car.specs.Car.{framed, IsHeader, IsStart, IsSection, SectionFault}
-use Rattle.ss_car.specs.declared.fault.CarFault.{CarFault}
-use Rattle.std.specs.Option.{ForSome}
-use Rattle.ss_io.specs.Causes.{Rose}
+-- What is taken from an input that exposes its bytes, what is wrong with the bytes that a length counts, and a reader as its caller sees it.
+use Rattle.std.specs.{Prelude.{◌≡◌, ℕ, ◌<◌, ◌^◌, List, [], ◌++◌, length, Option, Some, None, Err, ⊤, ◌∷◌, MatchOption, Result, MatchResult, ◌+◌, ◌≤◌, slice_index_or}, Io.KnownBytes.{Keeps, Consumes, IsAtEnd}, Option.ForSome}
+use Rattle.ss_cid.specs.{Cid.cid_at, declared.fault.CidFault.CidFault}
+use Rattle.ss_car.specs.{Car.{framed, IsHeader, IsStart, IsSection, SectionFault}, declared.fault.CarFault.CarFault, declared.fault.CarRefusal.CarRefusal, declared.reader.CarReader.CarReader}
+use Rattle.ss_io.specs.{Streams.Rose, declared.source.Source.Ghosts as Source, declared.buffered.Buffered.Buffered, Buffered.{before, buffered_of}}
 
 -- the input begins with a header with these roots, of so many bytes with its length, which were taken
 pub record TakesStart (old new : Option (List ℕ)) (roots : List (List ℕ)) (taken : ℕ) : Type 0 where
@@ -72,3 +68,41 @@ pub record EndsOnce (bytes : List ℕ) : Type 0 where
   pub few : last < 9
   pub high : (j : ℕ) → j < last → 128 ≤ slice_index_or bytes j 0
   pub ends : slice_index_or bytes last 0 < 128
+
+-- what is left of a source that is read through a buffer
+abbrev pub left_of : {S : Type 0} → Source S → Buffered S → Option (List ℕ)
+left_of source b = before (buffered_of b) (source.left b.source)
+
+abbrev pub faults_of : {S : Type 0} → Source S → Buffered S → ℕ
+faults_of source b = source.faults b.source
+
+abbrev pub place_of : {S : Type 0} → Source S → Buffered S → List ℕ
+place_of source b = source.place b.source
+
+abbrev pub roots_of : {S : Type 0} → CarReader S → List (List ℕ)
+roots_of r = r.roots
+
+abbrev pub taken_of : {S : Type 0} → CarReader S → ℕ
+taken_of r = r.taken
+
+abbrev pub refusal_of : {S : Type 0} → CarReader S → Option CarRefusal
+refusal_of r = r.refusal
+
+abbrev pub input_left : {S : Type 0} → Source S → CarReader S → Option (List ℕ)
+input_left source r = left_of source r.source
+
+abbrev pub input_faults : {S : Type 0} → Source S → CarReader S → ℕ
+input_faults source r = faults_of source r.source
+
+abbrev pub input_place : {S : Type 0} → Source S → CarReader S → List ℕ
+input_place source r = place_of source r.source
+
+-- The next section was given, and the count of bytes rose by its own, or the input had ended.
+abbrev pub GivesNext : {S : Type 0} → Source S → CarReader S → CarReader S → Option (List ℕ × List ℕ) → Type 0
+GivesNext source old new None = IsAtEnd (input_left source old) × Keeps (input_left source old) (input_left source new) × (taken_of new ≡ taken_of old)
+GivesNext source old new (Some (cid, block)) =
+    TakesSection (input_left source old) (input_left source new) cid block × (taken_of new ≡ taken_of old + length (framed (cid ++ block)))
+
+-- the source's count of faults rose where it is what failed, and stayed in every other case
+abbrev pub RefusalHasCause : {X : Type 0} → ℕ → ℕ → Result X CarRefusal → Type 0
+RefusalHasCause before now result = MatchResult result (λ _. now ≡ before) (λ refusal. FaultHasCause before now refusal.fault)

@@ -3,12 +3,10 @@
 -- DAG-CBOR, a map with exactly the keys `roots` and `version`. That there may be no root, that the keys come in either
 -- order and the limits on the lengths are this project's own.
 use Rattle.std.specs.Prelude.{◌≡◌, ◌⊎◌, ℕ, ◌+◌, ◌<◌, ◌≤◌, ◌^◌, List, [], ◌∷◌, ◌++◌, map, length, codes, Option, Some, None, Err}
-use Rattle.ss_cid.specs.Cid.{IsCid, cid_at}
-use Rattle.ss_cid.specs.Varint.{varint, varint_at}
-use Rattle.ss_cid.specs.declared.fault.CidFault.{CidFault}
+use Rattle.ss_cid.specs.{Cid.{IsCid, cid_at}, Varint.{varint, varint_at}, declared.fault.CidFault.CidFault}
+use Rattle.ss_cbor.specs.Item.{AreParts}
+use Rattle.ss_car.specs.{declared.fault.CarFault.CarFault, declared.fault.CarRefusal.CarRefusal}
 use Rattle.ss_cbor.specs.Item as item
-use Rattle.ss_cbor.specs.Parts.{AreParts}
-use Rattle.ss_car.specs.declared.fault.{CarFault.CarFault, CarRefusal.CarRefusal}
 
 -- ---- the forms
 
@@ -78,8 +76,7 @@ pub record Section : Type 0 where
   pub cid : List ℕ
   pub block : List ℕ
 
--- The longest run of sections of the bytes, which begin at this offset, and why it does not go on: the first refusal, or
--- none at the end of the bytes.
+-- The longest run of sections of bytes that begin at this offset, and why it ends: the first refusal, or none at the end of the bytes.
 pub data AreSections : ℕ → List ℕ → List Section → Option CarRefusal → Type 0 where
   end : {at : ℕ} → AreSections at [] [] None
   refused : {at : ℕ} {bytes : List ℕ} {fault : CarFault} → 0 < length bytes → SectionFault bytes fault →
@@ -95,3 +92,15 @@ pub record IsCar (bytes : List ℕ) (roots : List (List ℕ)) (sections : List S
   pub spelled : bytes ≡ start ++ rest
   pub is_start : IsStart start roots
   pub are_sections : AreSections (length start) rest sections ending
+
+-- the number of each fault, from 1, in the order of the variants, which the program prints; it is this project's own
+abbrev pub number_of : CarFault → ℕ
+number_of CarFault.ReadFault = 1
+number_of CarFault.Truncated = 2
+number_of CarFault.BadHeader = 3
+number_of (CarFault.BadVersion version) = 4
+number_of CarFault.ZeroSection = 5
+number_of CarFault.TooLarge = 6
+number_of CarFault.BadCid = 7
+number_of CarFault.NoMemory = 8
+number_of CarFault.BadLength = 9

@@ -1,11 +1,6 @@
--- Reading a header's map from left to right: the roots and the version, or nothing of bytes that are no such map. `end` is
--- the length of the whole header.
-use Rattle.std.specs.Prelude.{ℕ, zero, suc, ◌==◌, nat_eq, if◌then◌else◌, List, [], ◌∷◌, length, codes, Option, Some, None, Result, Ok}
-use Rattle.std.specs.Cmp.Lexicographic.{pointwise}
-use Rattle.ss_cbor.specs.Item.{Part, text, map}
-use Rattle.ss_cbor.specs.Options.{◌>>=◌, or_else}
-use Rattle.ss_cbor.specs.Reading.{part_at, as_count, as_number, as_link}
-use Rattle.ss_cbor.specs.declared.fault.CborFault.{CborFault}
+-- Reading a header's map from left to right: the roots and the version, or nothing. `end` is the length of the whole header.
+use Rattle.std.specs.{Prelude.{ℕ, zero, suc, ◌==◌, nat_eq, if◌then◌else◌, List, [], ◌∷◌, length, codes, Option, Some, None, Result, Ok}, Cmp.Lexicographic.pointwise, Option.option_or}
+use Rattle.ss_cbor.specs.{Item.{Part, text, map}, Options.{◌>>=◌}, Reading.{part_at, as_count, as_number, as_link}, declared.fault.CborFault.CborFault}
 
 -- what a part says, where it is of this kind, and what follows it
 abbrev pub as_pairs : Result (Part × List ℕ) CborFault → Option (ℕ × List ℕ)
@@ -73,4 +68,4 @@ version_first end bytes = do
 
 -- the map with its two keys in either order
 unfoldable pub header_in : List ℕ → Option (List (List ℕ) × ℕ)
-header_in bytes = or_else (roots_first (length bytes) bytes) (version_first (length bytes) bytes)
+header_in bytes = option_or (roots_first (length bytes) bytes) (version_first (length bytes) bytes)

@@ -1,13 +1,9 @@
 -- What a writer of CARs makes, and how a write ends.
-use Rattle.std.specs.Prelude.{◌≡◌, ℕ, ◌+◌, ◌≤◌, List, [], ◌∷◌, ◌++◌, length, codes, Option, Result, Ok, Err}
-use Rattle.std.specs.List.{flat_map}
-use Rattle.std.specs.Io.KnownBytes.{Keeps, Appends}
+use Rattle.std.specs.{Prelude.{◌≡◌, ℕ, ◌+◌, ◌≤◌, List, [], ◌∷◌, ◌++◌, length, codes, Option, Result, Ok, Err}, List.flat_map, Io.KnownBytes.{Keeps, Appends}}
 use Rattle.ss_cbor.specs.Item.{head}
 use Rattle.ss_cid.specs.Cid.{IsCid}
-use Rattle.ss_io.specs.Causes.{Rose}
-use Rattle.ss_io.specs.Written.{AppendsFront}
-use Rattle.ss_car.specs.Car.{framed, Section}
-use Rattle.ss_car.specs.declared.fault.CarWriteFault.{CarWriteFault}
+use Rattle.ss_io.specs.Streams.{Rose, AppendsFront}
+use Rattle.ss_car.specs.{Car.{framed, Section}, declared.fault.CarWriteFault.CarWriteFault}
 
 -- ---- the bytes
 

@@ -1,6 +1,6 @@
 //! Why a CAR is refused, or not written.
 ghost use Rattle.std.specs.Prelude.{◌≡◌};
-ghost use Rattle.ss_car.specs.Fault.{number_of};
+ghost use Rattle.ss_car.specs.Car.{number_of};
 
 use ss_cid::NoMemory;
 use ss_io::Failed;

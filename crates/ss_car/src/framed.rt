@@ -3,10 +3,9 @@ ghost use Rattle.std.specs.Prelude.{◌≡◌, ℕ, ◌+◌, ◌<◌, ◌≤◌,
 ghost use Rattle.std.specs.Io.KnownBytes.{Consumes};
 ghost use Rattle.ss_cid.specs.Varint.{varint, varint_at};
 ghost use Rattle.ss_cid.specs.declared.fault.CidFault.TheVariants.{LongVarint};
-ghost use Rattle.ss_io.specs.Causes.{HasCause as HasCallCause};
+ghost use Rattle.ss_io.specs.Streams.{HasCause as HasCallCause};
 ghost use Rattle.ss_car.specs.Car.{framed, LengthFault, UnframedFault};
-ghost use Rattle.ss_car.specs.Front.{left_of, faults_of, place_of};
-ghost use Rattle.ss_car.specs.Bodies.{EndsOnce, Blames, TakesByte, HasCause};
+ghost use Rattle.ss_car.specs.Bodies.{left_of, faults_of, place_of, EndsOnce, Blames, TakesByte, HasCause};
 
 use crate::fault::CarFault;
 use ss_cid::{CidFault, read_varint};

@@ -9,8 +9,8 @@
 //! the end, which comes exactly where no byte is left. A refusal has the offset of the header, which is 0, or of the
 //! section's length, and is answered again from then on. At a header or a section in place p these are tested in order:
 //!
-//! 1. the input ends inside the length: `Truncated`; the length has more than nine bytes or is not in its shortest form:
-//!    `BadLength`;
+//! 1. the first nine bytes of the length all have the high bit: `BadLength`; the input ends inside the length: `Truncated`; it is
+//!    not in its shortest form: `BadLength`;
 //! 2. the length passes the limit: `TooLarge`;
 //! 3. fewer bytes are left: `Truncated`;
 //! 4. of a header, the bytes are no such map: `BadHeader`; its version is not 1: `BadVersion`;
@@ -33,6 +33,3 @@ mod writer;
 pub use fault::{CarFault, CarRefusal, CarWriteFault};
 pub use reader::CarReader;
 pub use writer::{write_header, write_section};
-
-#[cfg(test)]
-mod tests;

@@ -1,8 +1,7 @@
 //! Reading a CAR section by section.
 ghost use Rattle.std.specs.Prelude.{◌≡◌, ◌<◌, ◌^◌, Some, None, Err, IfOk, IfErr, OnOk};
-ghost use Rattle.ss_car.specs.Bodies.{NextFault, TakesStart, Blames, FaultHasCause};
+ghost use Rattle.ss_car.specs.Bodies.{NextFault, TakesStart, Blames, FaultHasCause, roots_of, taken_of, refusal_of, input_left, input_faults, input_place, GivesNext, RefusalHasCause};
 ghost use Rattle.ss_car.specs.Car.{StartFault};
-ghost use Rattle.ss_car.specs.Reader.{roots_of, taken_of, refusal_of, input_left, input_faults, input_place, GivesNext, HasCause};
 ghost use Rattle.ss_car.specs.declared.fault.CarRefusal.{CarRefusal};
 
 use crate::fault::{CarFault, CarRefusal};
@@ -77,7 +76,7 @@ impl<S: Source + Drop> CarReader<S> {
         requires { taken_of self.old < 2 ^ 62 }
         ensures found { IfOk result (GivesNext S.Source self.old self.new) }
         ensures refused { IfErr result (λ refusal. refusal_of self.old ≡ None → (refusal.offset ≡ taken_of self.old) × Blames NextFault (input_left S.Source self.old) refusal.fault) }
-        ensures cause { refusal_of self.old ≡ None → HasCause (input_faults S.Source self.old) (input_faults S.Source self.new) result }
+        ensures cause { refusal_of self.old ≡ None → RefusalHasCause (input_faults S.Source self.old) (input_faults S.Source self.new) result }
         ensures kept { IfErr result (λ refusal. refusal_of self.new ≡ Some refusal) }
         ensures again { (refusal : CarRefusal) → refusal_of self.old ≡ Some refusal → (result ≡ Err refusal) × (self.new ≡ self.old) }
         ensures fresh { OnOk result (refusal_of self.new ≡ None) }

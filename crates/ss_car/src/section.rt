@@ -1,9 +1,8 @@
 //! Reading the header or a section from the front of a source.
 ghost use Rattle.std.specs.Prelude.{◌≡◌, ◌<◌, ◌^◌, ◌++◌, length, IfOk, IfErr};
 ghost use Rattle.ss_cid.specs.Cid.{IsCid};
-ghost use Rattle.ss_car.specs.Bodies.{BodyFault, NextFault, TakesStart, TakesSection, TakesNext, Blames, HasCause};
+ghost use Rattle.ss_car.specs.Bodies.{BodyFault, NextFault, TakesStart, TakesSection, TakesNext, Blames, HasCause, left_of, faults_of, place_of};
 ghost use Rattle.ss_car.specs.Car.{framed, StartFault, SectionFault};
-ghost use Rattle.ss_car.specs.Front.{left_of, faults_of, place_of};
 
 use crate::fault::CarFault;
 use crate::framed::next_framed;

@@ -1,8 +1,7 @@
 //! Writing a CAR: the header, and then section by section.
 ghost use Rattle.std.specs.Prelude.{◌≡◌, ◌++◌, IfOk, OnOk};
 ghost use Rattle.std.specs.List.{flat_map};
-ghost use Rattle.ss_io.specs.Causes.{HasCause};
-ghost use Rattle.ss_io.specs.Written.{PutAppends};
+ghost use Rattle.ss_io.specs.Streams.{HasCause, PutAppends};
 ghost use Rattle.ss_car.specs.Car.{framed};
 ghost use Rattle.ss_car.specs.Writing.{link_bytes, header_bytes, Writes, WriteHasCause};
 

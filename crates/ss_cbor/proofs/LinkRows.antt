@@ -3,8 +3,7 @@ use Rattle.std.proofs.Common.{◌≡◌, ℕ, zero, suc, ◌+◌, ◌^◌, ◌<�
 use Rattle.ss_cid.specs.Cid.{IsCid}
 use Rattle.ss_cid.specs.Steps.{◌>>=◌}
 use Rattle.ss_cbor.specs.Item.{Part, link, items_in, links_of, IsPart, Items, IsItem}
-use Rattle.ss_cbor.specs.Reading.{part_at}
-use Rattle.ss_cbor.specs.Links.{or_none, links_by, links_left}
+use Rattle.ss_cbor.specs.Reading.{part_at, or_none, links_by, links_left}
 use Rattle.ss_cbor.specs.declared.fault.CborFault.{CborFault}
 use Rattle.ss_cbor.proofs.Numbers.{IsBytes}
 use Rattle.ss_cbor.proofs.Parts.{part_takes, part_again, IsPart-some}

@@ -9,7 +9,7 @@ use Rattle.ss_cid.specs.Cid.{cid_len, IsCid}
 use Rattle.ss_cid.specs.declared.fault.CidFault.{CidFault}
 use Rattle.ss_cbor.specs.Item.{Part, uint, nint, blob, text, array, map, link, float, bool, null, head, items_in, IsPart}
 use Rattle.std.specs.Prelude.{IfOk}
-use Rattle.ss_cbor.specs.Gives.{Gives}
+use Rattle.ss_cbor.specs.Position.{Gives}
 use Rattle.ss_cbor.specs.Reading.{bytes_at, holding, content_at, simple_at, piece_at, is_whole, is_cid, linked, part_from, part_at}
 use Rattle.ss_cbor.specs.declared.fault.CborFault.{CborFault}
 use Rattle.ss_cbor.specs.declared.fault.CborKind.TheVariants.{BadLink}

@@ -6,8 +6,7 @@ use Rattle.std.proofs.lemmas.List.{get_or_past, append-nil, append_assoc}
 use Rattle.std.proofs.lemmas.List.Elements.{All-get_or}
 use Rattle.std.proofs.lemmas.List.Concat.{flat_map-cons}
 use Rattle.ss_cid.proofs.Chains.{Ok-same}
-use Rattle.ss_cbor.specs.Item.{Part, items_in, links_of, IsPart, Items, IsItem, none}
-use Rattle.ss_cbor.specs.Parts.{AreParts, Closes}
+use Rattle.ss_cbor.specs.Item.{Part, items_in, links_of, IsPart, Items, IsItem, none, AreParts, Closes}
 use Rattle.ss_cbor.specs.Fault.{walk, item_at, IsRefused, scanned}
 use Rattle.ss_cbor.specs.declared.fault.CborFault.{CborFault}
 use Rattle.ss_cbor.proofs.Numbers.{IsBytes}

@@ -10,7 +10,7 @@ use Rattle.ss_cbor.specs.declared.fault.CborFault.{CborFault}
 use Rattle.ss_cbor.specs.declared.fault.CborKind.TheVariants.{Trailing}
 use Rattle.ss_cbor.proofs.Numbers.{IsBytes}
 use Rattle.ss_cbor.proofs.Heads.{choose}
-use Rattle.ss_cbor.specs.Links.{links_left}
+use Rattle.ss_cbor.specs.Reading.{links_left}
 use Rattle.ss_cbor.proofs.LinkRows.{links_of_item}
 use Rattle.ss_cbor.proofs.Rows.{Items-few}
 use Rattle.ss_cbor.proofs.Walk.{bind-Err, Err-same, TakesItems, walk_takes, walk_again, walk_faults, walk_refused}

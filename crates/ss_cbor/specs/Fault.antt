@@ -1,9 +1,7 @@
 -- Reading items from left to right, with the first fault that is met.
 use Rattle.std.specs.Prelude.{◌≡◌, ◌≢◌, ℕ, zero, suc, ◌+◌, ◌-◌, ◌==◌, ◌⊎◌, if◌then◌else◌, List, [], ◌++◌, length, take, Result, Ok, Err}
 use Rattle.ss_cid.specs.Steps.{◌>>=◌}
-use Rattle.ss_cbor.specs.Item.{Part, items_in, links_of, IsItem}
-use Rattle.ss_cbor.specs.Reading.{fails, part_at}
-use Rattle.ss_cbor.specs.declared.fault.{CborFault.CborFault, CborKind.TheVariants.Truncated, CborKind.TheVariants.Trailing}
+use Rattle.ss_cbor.specs.{Item.{Part, items_in, links_of, IsItem}, Reading.{fails, part_at}, declared.fault.CborFault.CborFault, declared.fault.CborKind.TheVariants.{Truncated, Trailing}, declared.fault.CborKind.CborKind}
 
 -- the first fault of so many items, from left to right: of the first part, or behind it
 pub data FirstFault (end : ℕ) : ℕ → List ℕ → CborFault → Type 0 where
@@ -27,8 +25,7 @@ pub record IsTrailing (bytes : List ℕ) (fault : CborFault) : Type 0 where
 abbrev pub IsRefused : List ℕ → CborFault → Type 0
 IsRefused bytes fault = FirstFault (length bytes) 1 bytes fault ⊎ IsTrailing bytes fault
 
--- The links of so many items and what follows them, or the first fault, in at most so many parts. Each part
--- takes a byte, so the length of the bytes is enough.
+-- The links of so many items and what follows them, or the first fault, in at most so many parts: one for each byte is enough.
 unfoldable pub walk : ℕ → ℕ → ℕ → List ℕ → Result (List (List ℕ) × List ℕ) CborFault
 walk most zero end bytes = Ok ([], bytes)
 walk zero (suc due) end bytes = fails Truncated end
@@ -58,3 +55,14 @@ unfoldable pub scanned : List ℕ → Result (List (List ℕ)) CborFault
 scanned bytes = do
   items ← items_at 1 (length bytes) bytes
   if length items.1 == 0 then Ok items.0 else fails Trailing (length bytes - length items.1)
+
+-- the number of each kind of fault, which the program prints
+abbrev pub number_of : CborKind → ℕ
+number_of CborKind.Truncated = 1
+number_of CborKind.LongHead = 2
+number_of CborKind.Indefinite = 3
+number_of CborKind.OtherTag = 4
+number_of CborKind.BadLink = 5
+number_of CborKind.BadSimple = 6
+number_of CborKind.Trailing = 7
+number_of CborKind.CountTooLarge = 8

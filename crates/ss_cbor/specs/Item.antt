@@ -2,12 +2,10 @@
 -- link is tag 42 over the byte 00 and a CID in binary (the IPLD specification of DAG-CBOR). The leniency is
 -- this project's own: the bytes of a text are not checked, a key is any item, keys come in any order and
 -- may repeat, and the eight bytes of a float are passed over.
-use Rattle.std.specs.Prelude.{◌≡◌, ℕ, zero, suc, ◌+◌, ◌*◌, ◌<◌, ◌^◌, nat_lt, if◌then◌else◌, Bool, List, [], ◌∷◌, ◌++◌, length}
-use Rattle.std.specs.Int.{w8, w16, w32, w64, to_be_bytes}
+use Rattle.std.specs.{Prelude.{◌≡◌, ℕ, zero, suc, ◌+◌, ◌*◌, ◌<◌, ◌^◌, nat_lt, if◌then◌else◌, Bool, List, [], ◌∷◌, ◌++◌, length}, Int.{w8, w16, w32, w64, to_be_bytes}}
 use Rattle.ss_cid.specs.Cid.{IsCid}
 
--- the one head of a major type and an argument: the type in the high three bits of its first byte, and in
--- the low five the argument, or that 1, 2, 4 or 8 bytes of it follow
+-- the one head of a major type and an argument: three bits of type, then in five the argument, or that 1, 2, 4 or 8 bytes of it follow
 unfoldable pub head : ℕ → ℕ → List ℕ
 head major n =
     if nat_lt n 24 then (32 * major + n) ∷ []
@@ -53,8 +51,7 @@ IsPart bytes float = (value : List ℕ) × (length value ≡ 8) × (bytes ≡ 0x
 IsPart bytes (bool b) = bytes ≡ (if b then 0xf5 else 0xf4) ∷ []
 IsPart bytes null = bytes ≡ 0xf6 ∷ []
 
--- the bytes are so many items one after another, which have these links in order of bytes: none, or a part,
--- the items in it, and the others
+-- the bytes are so many items in a row, with these links in order of bytes: none, or a part, the items in it, and the others
 pub data Items : ℕ → List ℕ → List (List ℕ) → Type 0 where
   none : Items zero [] []
   more : {n : ℕ} {bytes : List ℕ} {links : List (List ℕ)} (part : Part) (front inner rest : List ℕ) (below after : List (List ℕ)) →
@@ -65,3 +62,16 @@ pub data Items : ℕ → List ℕ → List (List ℕ) → Type 0 where
 -- the bytes are exactly one item, which has these links
 abbrev pub IsItem : List ℕ → List (List ℕ) → Type 0
 IsItem bytes links = Items 1 bytes links
+
+-- the bytes spell these parts, one after another
+abbrev pub AreParts : List ℕ → List Part → Type 0
+AreParts bytes [] = bytes ≡ []
+AreParts bytes (part ∷ parts) =
+    (front : List ℕ) × (rest : List ℕ) × IsPart front part × AreParts rest parts × (bytes ≡ front ++ rest)
+
+-- the parts are so many items: each that is due comes, and none besides
+abbrev pub Closes : ℕ → List Part → Type 0
+Closes zero [] = Unit {0}
+Closes zero (part ∷ parts) = ⊥
+Closes (suc due) [] = ⊥
+Closes (suc due) (part ∷ parts) = Closes (items_in part + due) parts

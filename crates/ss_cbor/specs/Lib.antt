@@ -3,10 +3,6 @@ pub use Rattle.ss_cid.specs.Steps
 pub mod Item
 pub mod Reading
 pub mod Fault
-pub mod Kind
-pub mod Links
-pub mod Parts
 pub mod Position
 pub mod Part
-pub mod Gives
 pub mod Options

@@ -1,8 +1,7 @@
 -- The part that a value of the code stands for.
 use Rattle.std.specs.Prelude.{Option, Some, None}
 use Rattle.ss_cbor.specs.Item as item
-use Rattle.ss_cbor.specs.declared.item.Item.{Item}
-use Rattle.ss_cbor.specs.declared.raw_part.RawPart.{RawPart}
+use Rattle.ss_cbor.specs.{declared.item.Item.Item, declared.raw_part.RawPart.RawPart}
 
 abbrev pub raw_part_of : RawPart → item.Part
 raw_part_of (RawPart.Uint n) = item.uint n

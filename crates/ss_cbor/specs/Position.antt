@@ -1,5 +1,5 @@
--- Where a cursor stands.
-use Rattle.std.specs.Prelude.{◌≡◌, ℕ, ◌-◌, List, length, Option, Some, None, MatchOption}
+-- Where a cursor stands, and what it and readers of slices return.
+use Rattle.std.specs.Prelude.{◌≡◌, ℕ, ◌-◌, List, length, Option, Some, None, MatchOption, Result, Ok, Err, MatchResult}
 
 pub record Position : Type 0 where
   -- the bytes that are left
@@ -24,3 +24,7 @@ pub record Reads {X Y : Type 0} (view : X → Y) (from : ℕ → List ℕ → Op
 pub record Passes (from : ℕ → List ℕ → Option (List ℕ)) (old new : Position) (result : Option (Unit {0})) : Type 0 where
   pub value : MatchOption result (from old.end old.rest ≡ None) (λ _. from old.end old.rest ≡ Some new.rest)
   pub end : new.end ≡ old.end
+
+-- the result of a reader of slices, seen by the view, is what reading a list gives
+abbrev pub Gives : {X Y E : Type 0} → (X → Y) → Result X E → Result Y E → Type 0
+Gives view result read = MatchResult result (λ x. read ≡ Ok (view x)) (λ e. read ≡ Err e)

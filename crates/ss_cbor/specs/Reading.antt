@@ -1,12 +1,8 @@
 -- Reading one part from the front of what is left of an input: the part and the bytes behind it, or the first
 -- fault. `end` is the length of the whole input, so what is left begins at the place `end - length bytes`.
-use Rattle.std.specs.Prelude.{ℕ, zero, ◌+◌, ◌-◌, ◌/◌, ◌%◌, ◌^◌, ◌==◌, ◌&&◌, nat_lt, nat_le, if◌then◌else◌, Bool, true, false, List, [], ◌∷◌, length, take, drop, Option, Some, None, Result, Ok, Err}
-use Rattle.std.specs.Int.{Width, w8, w16, w32, w64, byte_len, from_be_bytes}
-use Rattle.ss_cid.specs.Cid.{cid_len}
-use Rattle.ss_cid.specs.Steps.{◌>>=◌}
-use Rattle.ss_cid.specs.declared.fault.CidFault.{CidFault}
-use Rattle.ss_cbor.specs.Item.{Part, items_in, uint, nint, blob, text, array, map, link, float, bool, null}
-use Rattle.ss_cbor.specs.declared.fault.{CborFault.CborFault, CborKind.CborKind}
+use Rattle.std.specs.{Prelude.{ℕ, zero, ◌+◌, ◌-◌, ◌/◌, ◌%◌, ◌^◌, ◌==◌, ◌&&◌, nat_lt, nat_le, if◌then◌else◌, Bool, true, false, List, [], ◌∷◌, length, take, drop, Option, Some, None, Result, Ok, Err, suc, ◌++◌}, Int.{Width, w8, w16, w32, w64, byte_len, from_be_bytes}}
+use Rattle.ss_cid.specs.{Cid.cid_len, Steps.{◌>>=◌}, declared.fault.CidFault.CidFault}
+use Rattle.ss_cbor.specs.{Item.{Part, items_in, uint, nint, blob, text, array, map, link, float, bool, null, links_of}, declared.fault.CborFault.CborFault, declared.fault.CborKind.CborKind}
 
 -- a fault of this kind at a place
 abbrev pub fails : {A : Type 0} → CborKind → ℕ → Result A CborFault
@@ -114,3 +110,17 @@ as_number _ = None
 abbrev pub as_link : Result (Part × List ℕ) CborFault → Option (List ℕ × List ℕ)
 as_link (Ok (link cid, rest)) = Some (cid, rest)
 as_link _ = None
+
+-- the links, or none where there is a fault
+abbrev pub or_none : Result (List (List ℕ)) CborFault → List (List ℕ)
+or_none (Ok links) = links
+or_none (Err fault) = []
+
+-- the links of the parts at the front, up to the first fault, in at most so many parts
+unfoldable pub links_by : ℕ → List ℕ → List (List ℕ)
+links_by zero bytes = []
+links_by (suc most) bytes = or_none (part_at 0 (length bytes) bytes >>= λ x. Ok (links_of x.0 ++ links_by most x.1))
+
+-- the links of the parts at the front, up to the first fault or the end
+unfoldable pub links_left : List ℕ → List (List ℕ)
+links_left bytes = links_by (length bytes) bytes

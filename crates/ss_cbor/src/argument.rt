@@ -1,7 +1,7 @@
 //! The argument of a head.
 ghost use Rattle.std.specs.Prelude.{◌≤◌, ◌^◌, length, IfOk};
 ghost use Rattle.std.specs.Int.{w8, w16, w32, w64};
-ghost use Rattle.ss_cbor.specs.Gives.{Gives};
+ghost use Rattle.ss_cbor.specs.Position.{Gives};
 ghost use Rattle.ss_cbor.specs.Reading.{wide_at, argument_at};
 
 use crate::fault::{CborFault, CborKind};

@@ -2,10 +2,9 @@
 ghost use Rattle.std.specs.Prelude.{◌≡◌, ◌↔◌, ◌≤◌, ◌++◌, length, [], ℕ, List, Ok, Err, MatchResult, IfOk, IfErr, OnErr, IsTrue, All};
 ghost use Rattle.ss_cid.specs.Cid.{IsCid};
 ghost use Rattle.ss_cbor.specs.Fault.{FirstFault, item_at};
-ghost use Rattle.ss_cbor.specs.Gives.{Gives};
+ghost use Rattle.ss_cbor.specs.Position.{Gives, start_of, place_of};
 ghost use Rattle.ss_cbor.specs.Item.{links_of, IsPart, IsItem};
 ghost use Rattle.ss_cbor.specs.Part.{part_of, raw_part_of};
-ghost use Rattle.ss_cbor.specs.Position.{start_of, place_of};
 ghost use Rattle.ss_cbor.specs.Reading.{part_at};
 
 use crate::fault::CborFault;

@@ -1,6 +1,6 @@
 //! Why bytes are no item.
 ghost use Rattle.std.specs.Prelude.{◌≡◌};
-ghost use Rattle.ss_cbor.specs.Kind.{number_of};
+ghost use Rattle.ss_cbor.specs.Fault.{number_of};
 
 use std::error::Error;
 use std::fmt;

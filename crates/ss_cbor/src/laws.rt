@@ -3,8 +3,7 @@ ghost use Rattle.std.specs.Prelude.{◌≡◌, ◌⊎◌, ◌<◌, ◌^◌, ◌+
 ghost use Rattle.std.specs.List.{flat_map};
 ghost use Rattle.ss_cbor.specs.declared.fault.CborFault.{CborFault};
 ghost use Rattle.ss_cbor.specs.Fault.{IsRefused, item_at};
-ghost use Rattle.ss_cbor.specs.Item.{Part, items_in, links_of, IsPart, IsItem};
-ghost use Rattle.ss_cbor.specs.Parts.{AreParts, Closes};
+ghost use Rattle.ss_cbor.specs.Item.{Part, items_in, links_of, IsPart, IsItem, AreParts, Closes};
 ghost use Rattle.ss_cbor.specs.Reading.{part_at};
 
 /// No item begins another, and an item has one list of links.

@@ -47,6 +47,3 @@ pub use item::Item;
 pub use links::Links;
 pub use scanner::scan;
 pub use writer::Writer;
-
-#[cfg(test)]
-mod tests;

@@ -1,7 +1,7 @@
 //! The links of an item.
 ghost use Rattle.std.specs.Prelude.{◌≡◌, ◌∷◌, [], IfSome, IfNone};
 ghost use Rattle.std.specs.Iterator.{YieldsFirst, item_count};
-ghost use Rattle.ss_cbor.specs.Links.{links_left};
+ghost use Rattle.ss_cbor.specs.Reading.{links_left};
 ghost use Rattle.ss_cid.specs.Cid.{IsCid};
 
 use crate::reading::part_at;
@@ -17,7 +17,7 @@ pub struct Links<'a> {
 
 impl<'a> Model for Links<'a> {
     ghost use Rattle.std.specs.Prelude.{List, ℕ};
-    ghost use Rattle.ss_cbor.specs.Links.{links_left};
+    ghost use Rattle.ss_cbor.specs.Reading.{links_left};
 
     ghost Value = { List (List ℕ) };
 

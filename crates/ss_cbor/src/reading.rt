@@ -1,6 +1,6 @@
 //! Reading one part. Its steps are inlined, since a part is large to hand on from one to the next.
 ghost use Rattle.std.specs.Prelude.{◌≡◌, ◌+◌, ◌*◌, ◌<◌, ◌≤◌, ◌^◌, length, IfOk, Result, Err, Some};
-ghost use Rattle.ss_cbor.specs.Gives.{Gives};
+ghost use Rattle.ss_cbor.specs.Position.{Gives};
 ghost use Rattle.ss_cbor.specs.Item.{items_in};
 ghost use Rattle.ss_cbor.specs.Part.{raw_part_of, raw_piece_of};
 ghost use Rattle.ss_cbor.specs.Reading.{bytes_at, holding, content_at, simple_at, piece_at, part_from, part_at, linked, is_cid};

@@ -2,7 +2,7 @@
 ghost use Rattle.std.specs.Prelude.{◌≡◌, ◌↔◌, ◌≤◌, ℕ, List, length, Ok, Err, IfOk};
 ghost use Rattle.ss_cbor.specs.declared.fault.CborFault.{CborFault};
 ghost use Rattle.ss_cbor.specs.Fault.{rest_at, scanned, IsRefused};
-ghost use Rattle.ss_cbor.specs.Gives.{Gives};
+ghost use Rattle.ss_cbor.specs.Position.{Gives};
 ghost use Rattle.ss_cbor.specs.Item.{IsItem};
 
 use crate::fault::{CborFault, CborKind};

@@ -3,16 +3,15 @@ use Rattle.std.proofs.Common.{◌≡◌, ℕ, ◌+◌, ◌^◌, ◌<◌, ◌≤�
 use Rattle.std.specs.Prelude.{nat_le, ◌||◌, ◌==◌}
 use Rattle.ss_cid.specs.Cid.{codec_of}
 use Rattle.ss_cbor.specs.Fault.{scanned}
-use Rattle.ss_cbor.specs.Links.{or_none}
+use Rattle.ss_cbor.specs.Reading.{or_none}
 use Rattle.ss_cbor.specs.declared.fault.CborFault.{CborFault}
 use Rattle.ss_cbor.specs.Item.{link, head}
 use Rattle.ss_cbor.proofs.Numbers.{IsBytes}
 use Rattle.ss_cbor.proofs.Parts.{IsPart-some}
 use Rattle.ss_cbor.proofs.Rows.{Items-few}
 use Rattle.ss_cbor.proofs.Scanned.{scanned-Ok}
-use Rattle.ss_chain.specs.Header.{HeaderFields, IsHeader}
+use Rattle.ss_chain.specs.Header.{HeaderFields, IsHeader, item_links, links_in}
 use Rattle.ss_chain.specs.HeaderReading.{header_of}
-use Rattle.ss_chain.specs.Links.{item_links, links_in}
 use Rattle.ss_chain.specs.Follows.{is_followed, only_if, header_links, links_by, followed}
 use Rattle.ss_chain.proofs.LinkArrays.{array-is-item}
 use Rattle.ss_chain.proofs.Headers.{header-exact}

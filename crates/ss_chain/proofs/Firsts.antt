@@ -1,11 +1,11 @@
 -- The first of some numbers that gives something, and the elements before a place.
 use Rattle.std.proofs.Common.{◌≡◌, ℕ, zero, suc, ◌+◌, ◌<◌, Bool, true, false, List, [], ◌∷◌, take, Option, Some, None, refl, subst, ◌∙◌, add-one, zero-add, suc-add, arith, inl, inr}
+use Rattle.std.specs.Option.{option_or}
 use Rattle.std.proofs.lemmas.Bool.{cases_lt}
 use Rattle.std.specs.Prelude.{◌-◌, slice_get}
 use Rattle.std.specs.List.{list_any}
-use Rattle.ss_chain.specs.Steps.{or_else}
-use Rattle.ss_chain.proofs.Steps.{or_else-none, or-false, or-true}
-use Rattle.ss_chain.specs.First.{first_of, IsLeast}
+use Rattle.ss_chain.specs.Steps.{first_of, IsLeast}
+use Rattle.ss_chain.proofs.Steps.{option_or-none, or-false, or-true}
 
 module _ {A : Type 0} (gives : ℕ → Option A) where
   pub first_of-none : first_of gives zero ≡ None
@@ -63,7 +63,7 @@ module _ {A : Type 0} (gives : ℕ → Option A) where
   unfolding first_of
   first_of-none-each zero h j lt = absurd (omega arith)
   first_of-none-each (suc n) h j lt =
-      let p = or_else-none (first_of gives n) (gives n) h in
+      let p = option_or-none (first_of gives n) (gives n) h in
       elim (cases_lt j n) [
         | inl below ↦ first_of-none-each n p.0 j below
         | inr above ↦ let same : n ≡ j = omega arith in subst (λ (m : ℕ). gives m ≡ None) same p.1
@@ -74,7 +74,7 @@ module _ {A : Type 0} (gives : ℕ → Option A) where
   first_of-all-none zero none = refl
   first_of-all-none (suc n) none = rw (first_of-all-none n (λ j lt. none j (omega arith)), none n (omega arith)) refl
 
-  least-by : (n : ℕ) (x : A) (before : Option A) → first_of gives n ≡ before → or_else before (gives n) ≡ Some x →
+  least-by : (n : ℕ) (x : A) (before : Option A) → first_of gives n ≡ before → option_or before (gives n) ≡ Some x →
       (first_of gives n ≡ Some x → (i : ℕ) × IsLeast gives n x i) → (i : ℕ) × IsLeast gives (suc n) x i
   least-by n x (Some y) is h earlier =
       let e = earlier (is ∙ h) in

@@ -3,9 +3,8 @@ use Rattle.std.proofs.Common.{◌≡◌, ℕ, zero, suc, ◌≤◌, Bool, true, 
 use Rattle.std.specs.Prelude.{◌⊎◌, ◌||◌, ◌↔◌, not, nat_le}
 use Rattle.std.proofs.lemmas.Bool.{eqb-true, eq-eqb, leb-true, le-leb}
 use Rattle.std.proofs.lemmas.List.Elements.{Contains-append_left, Contains-append_right, Contains-append_cases}
-use Rattle.ss_chain.specs.Header.{HeaderFields}
+use Rattle.ss_chain.specs.Header.{HeaderFields, links_in}
 use Rattle.ss_chain.specs.HeaderReading.{header_of}
-use Rattle.ss_chain.specs.Links.{links_in}
 use Rattle.ss_chain.specs.Follows.{is_commitment, is_followed, only_if, header_links, links_by, followed, HeaderLeads, parent, state, receipts, messages, Leads, IsFollowed}
 
 -- ---- members of a list

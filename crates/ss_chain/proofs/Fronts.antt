@@ -11,7 +11,7 @@ use Rattle.ss_cbor.proofs.Rows.{Items-append, Items-split, Items-none}
 use Rattle.ss_cbor.proofs.Fronts.{item_spelled, item_again}
 use Rattle.ss_chain.specs.Header.{AreItems}
 use Rattle.ss_chain.specs.HeaderReading.{count_from, number_from, link_from, item_from, after_items}
-use Rattle.ss_chain.proofs.Steps.{Some-same, bind-Some, accepted-is}
+use Rattle.ss_chain.proofs.Steps.{Some-same, bind-Some, result_ok-is}
 
 -- ---- what was read
 
@@ -74,7 +74,7 @@ module _ (end : ℕ) (bytes : List ℕ) (fits : IsBytes bytes) where
   pub item-taken : (x : List ℕ × List ℕ) → item_from end bytes ≡ Some x → AreItems 1 x.0 × TakesFront bytes x.0 x.1
   unfolding item_from item_at
   item-taken x h =
-      let r = bind-Ok (rest_at 1 end bytes) _ x (accepted-is (item_at end bytes) x h) in
+      let r = bind-Ok (rest_at 1 end bytes) _ x (result_ok-is (item_at end bytes) x h) in
       let s = item_spelled end bytes fits r.0 r.1 in
       subst (λ (y : List ℕ × List ℕ). AreItems 1 y.0 × TakesFront bytes y.0 y.1) (Ok-same r.2) ((s.0, s.1), takes bytes _ r.0 fits s.2)
 

@@ -3,15 +3,13 @@ use Rattle.std.proofs.Common.{◌≡◌, ℕ, zero, suc, ◌+◌, ◌^◌, ◌<�
 use Rattle.std.specs.List.{flat_map}
 use Rattle.std.proofs.lemmas.List.{append-nil}
 use Rattle.std.proofs.lemmas.List.Concat.{flat_map-cons}
-use Rattle.ss_cbor.specs.Item.{Part, array, link, links_of, IsPart, IsItem}
-use Rattle.ss_cbor.specs.Parts.{AreParts, Closes}
+use Rattle.ss_cbor.specs.Item.{Part, array, link, links_of, IsPart, IsItem, AreParts, Closes}
 use Rattle.ss_cbor.proofs.Numbers.{IsBytes}
 use Rattle.ss_cbor.proofs.Rows.{Items-few}
 use Rattle.ss_cbor.proofs.Readings.{one_reading, closed_items}
 use Rattle.ss_cbor.proofs.Scanned.{Ok-scanned}
-use Rattle.ss_chain.specs.Header.{AreItems}
+use Rattle.ss_chain.specs.Header.{AreItems, item_links}
 use Rattle.ss_chain.specs.HeaderReading.{count_from, link_from, leads_with_links, has_only_links}
-use Rattle.ss_chain.specs.Links.{item_links}
 use Rattle.ss_chain.proofs.Steps.{passes-is}
 use Rattle.ss_chain.proofs.Fronts.{count-taken, link-taken, count-again, link-again}
 

@@ -8,14 +8,13 @@ use Rattle.std.proofs.lemmas.List.Elements.{All-nil, All-cons, All-get_or, All-w
 use Rattle.ss_cid.specs.Cid.{IsCid, codec_of, digest_of}
 use Rattle.ss_cid.proofs.Grammar.{IsCid-length}
 use Rattle.ss_cbor.specs.Fault.{scanned}
-use Rattle.ss_cbor.specs.Links.{or_none}
+use Rattle.ss_cbor.specs.Reading.{or_none}
 use Rattle.ss_cbor.specs.declared.fault.CborFault.{CborFault}
 use Rattle.ss_cbor.specs.Item.{Part, uint, nint, blob, text, array, map, link, float, bool, null, head, links_of, IsPart, Items, none, more}
 use Rattle.ss_cbor.proofs.Numbers.{IsBytes, IsBytes-drop}
 use Rattle.ss_cbor.proofs.Scanned.{scanned-Ok}
-use Rattle.ss_chain.specs.Header.{HeaderFields, IsHeader}
+use Rattle.ss_chain.specs.Header.{HeaderFields, IsHeader, item_links, links_in}
 use Rattle.ss_chain.specs.HeaderReading.{header_of}
-use Rattle.ss_chain.specs.Links.{item_links, links_in}
 use Rattle.ss_chain.specs.Follows.{is_followed, only_if, header_links, links_by, followed}
 use Rattle.ss_chain.proofs.LinkArrays.{array-is-item}
 use Rattle.ss_chain.proofs.Headers.{header-exact}

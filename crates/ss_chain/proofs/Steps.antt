@@ -1,7 +1,9 @@
 -- Steps and choices, told from their outcome.
 use Rattle.std.proofs.Common.{◌≡◌, Bool, true, false, cond, Option, Some, None, Result, Ok, refl, ap}
+use Rattle.std.specs.Result.{result_ok}
+use Rattle.std.specs.Option.{option_or}
 use Rattle.std.specs.Prelude.{◌&&◌, ◌||◌, not}
-use Rattle.ss_chain.specs.Steps.{◌>>=◌, accepted, passes, or_else}
+use Rattle.ss_chain.specs.Steps.{◌>>=◌, passes}
 
 pub Some-same : {A : Type 0} {x y : A} → Some x ≡ Some y → x ≡ y
 Some-same h = cc
@@ -14,13 +16,13 @@ pub passes-is : {A : Type 0} (test : A → Bool) (o : Option A) → passes test 
 passes-is test (Some x) h = (x, refl, h)
 passes-is test None h = absurd (cc)
 
-pub accepted-is : {A E : Type 0} (r : Result A E) (x : A) → accepted r ≡ Some x → r ≡ Ok x
-accepted-is (Ok x) y h = ap Ok (Some-same h)
-accepted-is _ y h = absurd (cc)
+pub result_ok-is : {A E : Type 0} (r : Result A E) (x : A) → result_ok r ≡ Some x → r ≡ Ok x
+result_ok-is (Ok x) y h = ap Ok (Some-same h)
+result_ok-is _ y h = absurd (cc)
 
-pub or_else-none : {A : Type 0} (x y : Option A) → or_else x y ≡ None → (x ≡ None) × (y ≡ None)
-or_else-none (Some x) y h = absurd (cc)
-or_else-none None y h = (refl, h)
+pub option_or-none : {A : Type 0} (x y : Option A) → option_or x y ≡ None → (x ≡ None) × (y ≡ None)
+option_or-none (Some x) y h = absurd (cc)
+option_or-none None y h = (refl, h)
 
 pub chosen : {A : Type 0} (b : Bool) (x y : A) → cond b (Some x) None ≡ Some y → (b ≡ true) × (x ≡ y)
 chosen true x y h = (refl, Some-same h)

@@ -7,14 +7,14 @@ use Rattle.std.proofs.lemmas.Bool.{eqb-true, eqb-false, eq-eqb, ltb-false}
 use Rattle.std.proofs.lemmas.List.{length-map}
 use Rattle.std.proofs.lemmas.Option.{slice_get_within, slice_get-get_or}
 use Rattle.ss_cbor.proofs.Heads.{choose}
-use Rattle.ss_chain.specs.First.{first_of}
+use Rattle.ss_chain.specs.Steps.{first_of}
 use Rattle.ss_chain.specs.Header.{HeaderFields}
 use Rattle.ss_chain.specs.HeaderReading.{header_of}
 use Rattle.ss_chain.specs.Tipset.{IsTipset, same_cid, same_cids, count_fault, stands_earlier, repeat_at, cids_fault, fault_beside, header_at, unless, height_beside, common_height, tipset_of}
 use Rattle.ss_chain.specs.declared.tipset_fault.TipsetFault.{TipsetFault}
 use Rattle.ss_chain.specs.declared.tipset_fault.TipsetFault.TheVariants.{Repeated}
 use Rattle.ss_chain.proofs.Firsts.{first_of-none-each, first_of-all-none, list_any-found, list_any-none}
-use Rattle.ss_chain.proofs.Steps.{Some-same, or_else-none, not-chosen, both, not-false}
+use Rattle.ss_chain.proofs.Steps.{Some-same, option_or-none, not-chosen, both, not-false}
 use Rattle.ss_chain.proofs.Tipsets.{cids, cid-at, count-none, wrong, same_cid-refl, same_cids-refl}
 
 unless-Ok : {A : Type 0} (f : Option TipsetFault) (r : Result A TipsetFault) (x : A) → unless f r ≡ Ok x → (f ≡ None) × (r ≡ Ok x)
@@ -67,7 +67,7 @@ module _ (blocks : List (List ℕ × List ℕ)) where
   apart : cids_fault (cids blocks) ≡ None → (i j : ℕ) (a b : List ℕ × List ℕ) → j < i → slice_get blocks i ≡ Some a → slice_get blocks j ≡ Some b → a.0 ≢ b.0
   unfolding cids_fault stands_earlier
   apart none i j a b lt here there same =
-      let first = or_else-none (count_fault (length (cids blocks))) (first_of (repeat_at (cids blocks)) (length (cids blocks))) none in
+      let first = option_or-none (count_fault (length (cids blocks))) (first_of (repeat_at (cids blocks)) (length (cids blocks))) none in
       let i_lt : i < length (cids blocks) = slice_get_within (cids blocks) i a.0 (cid-at blocks i a here) in
       let fresh : stands_earlier (cids blocks) i ≡ false = not-chosen (stands_earlier (cids blocks) i) (Repeated i) (first_of-none-each (repeat_at (cids blocks)) (length (cids blocks)) first.1 i i_lt) in
       let found = list_any-found (same_cid a.0) (cids blocks) i j b.0 (cid-at blocks j b there) lt (subst (λ (c : List ℕ). same_cid a.0 c ≡ true) same (same_cid-refl a.0)) in
@@ -80,7 +80,7 @@ module _ (blocks : List (List ℕ × List ℕ)) where
   counted : cids_fault (cids blocks) ≡ None → (0 < length blocks) × (length blocks ≤ 64)
   unfolding cids_fault
   counted none =
-      let first = or_else-none (count_fault (length (cids blocks))) (first_of (repeat_at (cids blocks)) (length (cids blocks))) none in
+      let first = option_or-none (count_fault (length (cids blocks))) (first_of (repeat_at (cids blocks)) (length (cids blocks))) none in
       subst (λ (n : ℕ). (0 < n) × (n ≤ 64)) (length-map blocks (λ b. b.0)) (count-fits (length (cids blocks)) first.0)
 
   pub tipset-is : (height : ℕ) → tipset_of blocks ≡ Ok height → IsTipset blocks height

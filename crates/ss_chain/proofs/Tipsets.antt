@@ -5,7 +5,7 @@ use Rattle.std.specs.List.{list_any}
 use Rattle.std.proofs.lemmas.Bool.{eq-eqb, ne_eqb, le-ltb}
 use Rattle.std.proofs.lemmas.Option.{slice_get-map}
 use Rattle.std.proofs.lemmas.List.{length-map}
-use Rattle.ss_chain.specs.First.{first_of}
+use Rattle.ss_chain.specs.Steps.{first_of}
 use Rattle.ss_chain.specs.Header.{HeaderFields}
 use Rattle.ss_chain.specs.HeaderReading.{header_of}
 use Rattle.ss_chain.specs.Tipset.{same_cid, same_cids, count_fault, stands_earlier, repeat_at, cids_fault, fault_beside, header_at, common_height}

@@ -1,8 +1,7 @@
 -- Fetching a block: an identity CID's is its digest, which needs no store; another's is what is kept for it.
 use Rattle.std.specs.Prelude.{◌≡◌, ℕ, ◌+◌, ◌-◌, ◌^◌, ◌≤◌, ◌==◌, min, ◌||◌, if◌then◌else◌, Bool, true, false, List, Option, Some, ⊤}
 use Rattle.std.specs.FinMap as map
-use Rattle.ss_cid.specs.Cid.{hash_of, digest_of}
-use Rattle.ss_cid.specs.Maps.{Kept}
+use Rattle.ss_cid.specs.{Cid.{hash_of, digest_of}, Maps.Kept}
 use Rattle.ss_chain.specs.declared.fetched.Fetched.{Fetched}
 
 unfoldable pub is_identity : List ℕ → Bool

@@ -3,9 +3,7 @@
 -- followed is this project's own.
 use Rattle.std.specs.Prelude.{◌≡◌, ◌⊎◌, ◌≤◌, ℕ, ◌==◌, ◌||◌, ◌&&◌, not, nat_le, if◌then◌else◌, Bool, List, [], ◌∷◌, ◌++◌, filter, Option, Some, None, false, Contains}
 use Rattle.ss_cid.specs.Cid.{codec_of}
-use Rattle.ss_chain.specs.Header.{HeaderFields}
-use Rattle.ss_chain.specs.HeaderReading.{header_of}
-use Rattle.ss_chain.specs.Links.{links_in}
+use Rattle.ss_chain.specs.{Header.{HeaderFields, links_in}, HeaderReading.header_of}
 
 -- the codecs fil-commitment-unsealed and fil-commitment-sealed
 unfoldable pub is_commitment : List ℕ → Bool

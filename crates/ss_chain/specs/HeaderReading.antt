@@ -1,12 +1,8 @@
--- Reading a header from left to right: the fields, or nothing of a block that is no header. `end` is the length of the
--- whole block.
-use Rattle.std.specs.Prelude.{ℕ, zero, suc, ◌^◌, ◌==◌, ◌&&◌, nat_lt, if◌then◌else◌, Bool, true, List, length, Option, Some, None}
+-- Reading a header from left to right: the fields, or nothing of a block that is none. `end` is the length of the whole block.
+use Rattle.std.specs.{Prelude.{ℕ, zero, suc, ◌^◌, ◌==◌, ◌&&◌, nat_lt, if◌then◌else◌, Bool, true, List, length, Option, Some, None}, Result.result_ok}
 use Rattle.ss_cid.specs.Cid.{codec_of}
-use Rattle.ss_cbor.specs.Fault.{item_at}
-use Rattle.ss_cbor.specs.Reading.{part_at, as_count, as_number, as_link}
-use Rattle.ss_chain.specs.Header.{HeaderFields}
-use Rattle.ss_chain.specs.Links.{item_links}
-use Rattle.ss_chain.specs.Steps.{◌>>=◌, accepted, passes}
+use Rattle.ss_cbor.specs.{Fault.item_at, Reading.{part_at, as_count, as_number, as_link}}
+use Rattle.ss_chain.specs.{Header.{HeaderFields, item_links}, Steps.{◌>>=◌, passes}}
 
 -- an array's head, a number or a link, and what follows it
 unfoldable pub count_from : ℕ → List ℕ → Option (ℕ × List ℕ)
@@ -20,7 +16,7 @@ link_from end bytes = as_link (part_at 0 end bytes)
 
 -- the bytes of the item at the front, and what follows it
 unfoldable pub item_from : ℕ → List ℕ → Option (List ℕ × List ℕ)
-item_from end bytes = accepted (item_at end bytes)
+item_from end bytes = result_ok (item_at end bytes)
 
 -- what follows so many items
 unfoldable pub after_items : ℕ → ℕ → List ℕ → Option (List ℕ)

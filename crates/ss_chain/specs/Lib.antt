@@ -1,12 +1,9 @@
 pub use Rattle.ss_cid.specs.Cid
 pub use Rattle.ss_cid.specs.Maps
 pub mod Steps
-pub mod Links
 pub mod Header
 pub mod HeaderReading
-pub mod Fields
 pub mod Follows
-pub mod First
 pub mod Tipset
 pub mod Fetch
 pub mod Parcel

@@ -1,11 +1,9 @@
 -- Blocks in memory, as a parcel has them.
-use Rattle.std.specs.Prelude.{◌≡◌, ℕ, ◌+◌, ◌-◌, ◌^◌, min, not, List, [], Contains, Option, Some, unwrap_or, ⊤}
+use Rattle.std.specs.{Prelude.{◌≡◌, ℕ, ◌+◌, ◌-◌, ◌^◌, min, not, List, [], Contains, Option, Some, unwrap_or, ⊤}, List.filter}
 use Rattle.std.proofs.Common.{ap}
-use Rattle.std.specs.List.{filter}
 use Rattle.std.specs.FinMap as map
 use Rattle.ss_cid.specs.Maps.{Kept}
-use Rattle.ss_chain.specs.Fetch.{is_identity}
-use Rattle.ss_chain.specs.declared.fetched.Fetched.{Fetched}
+use Rattle.ss_chain.specs.{Fetch.is_identity, declared.fetched.Fetched.Fetched}
 
 pub record MemoryBlocks : Type 0 where
   pub blocks : List (List ℕ × List ℕ)

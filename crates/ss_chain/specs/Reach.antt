@@ -1,8 +1,7 @@
 -- Which CIDs are reached from some roots: by paths on which each next CID is followed from the block of the one before.
 use Rattle.std.specs.Prelude.{◌≡◌, ℕ, List, [], ◌∷◌, Contains, Some}
 use Rattle.ss_cid.specs.Maps.{Kept}
-use Rattle.ss_chain.specs.Fetch.{fetched}
-use Rattle.ss_chain.specs.Follows.{followed}
+use Rattle.ss_chain.specs.{Fetch.fetched, Follows.followed}
 
 -- the block of one CID is followed to the other
 pub record LeadsTo (edge : ℕ) (kept : Kept) (from to : List ℕ) : Type 0 where

@@ -1,12 +1,6 @@
 -- Tipsets: 1 to 64 distinct headers of one height with the same parents. The order of refusals is this project's own.
-use Rattle.std.specs.Prelude.{◌≡◌, ◌≢◌, ℕ, ◌<◌, ◌≤◌, ◌==◌, not, nat_eq, nat_lt, if◌then◌else◌, Bool, List, map, length, take, slice_get, Option, Some, None, Result, Ok, Err, option_and_then}
-use Rattle.std.specs.List.{list_any}
-use Rattle.std.specs.Cmp.Lexicographic.{pointwise}
-use Rattle.ss_chain.specs.Header.{HeaderFields}
-use Rattle.ss_chain.specs.HeaderReading.{header_of}
-use Rattle.ss_chain.specs.First.{first_of}
-use Rattle.ss_chain.specs.Steps.{passes, or_else}
-use Rattle.ss_chain.specs.declared.tipset_fault.TipsetFault.{TipsetFault}
+use Rattle.std.specs.{Prelude.{◌≡◌, ◌≢◌, ℕ, ◌<◌, ◌≤◌, ◌==◌, not, nat_eq, nat_lt, if◌then◌else◌, Bool, List, map, length, take, slice_get, Option, Some, None, Result, Ok, Err, option_and_then}, List.list_any, Cmp.Lexicographic.pointwise, Option.option_or}
+use Rattle.ss_chain.specs.{Header.HeaderFields, HeaderReading.header_of, Steps.{first_of, passes}, declared.tipset_fault.TipsetFault.TipsetFault}
 
 -- the blocks are a tipset of this height
 pub record IsTipset (blocks : List (List ℕ × List ℕ)) (height : ℕ) : Type 0 where
@@ -39,7 +33,7 @@ repeat_at cids i = if stands_earlier cids i then Some (TipsetFault.Repeated i) e
 
 -- what is wrong with these CIDs, whatever their blocks are
 unfoldable pub cids_fault : List (List ℕ) → Option TipsetFault
-cids_fault cids = or_else (count_fault (length cids)) (first_of (repeat_at cids) (length cids))
+cids_fault cids = option_or (count_fault (length cids)) (first_of (repeat_at cids) (length cids))
 
 -- what is wrong with a block at place i, beside the first header
 abbrev pub fault_beside : HeaderFields → ℕ → Option HeaderFields → Option TipsetFault

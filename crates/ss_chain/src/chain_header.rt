@@ -1,6 +1,6 @@
 //! What is read of a block header.
 ghost use Rattle.std.specs.Prelude.{◌≡◌, ◌<◌, ◌^◌, length};
-ghost use Rattle.ss_chain.specs.Fields.{fields};
+ghost use Rattle.ss_chain.specs.Header.{fields};
 
 use crate::block_links::item_links;
 use ss_cbor::Links;

@@ -2,7 +2,7 @@
 ghost use Rattle.std.specs.Prelude.{◌≡◌, ◌∷◌, [], filter, IfSome, IfNone};
 ghost use Rattle.std.specs.Iterator.{YieldsFirst, item_count};
 ghost use Rattle.ss_chain.specs.Follows.{is_followed, header_links, kept_link};
-ghost use Rattle.ss_chain.specs.Fields.{fields};
+ghost use Rattle.ss_chain.specs.Header.{fields};
 
 use crate::Header;
 use ss_cbor::Links;

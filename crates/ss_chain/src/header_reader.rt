@@ -1,7 +1,6 @@
 //! Reading a block header.
 ghost use Rattle.std.specs.Prelude.{◌≡◌, ◌↔◌, Some, length, option_map};
-ghost use Rattle.ss_chain.specs.Fields.{fields};
-ghost use Rattle.ss_chain.specs.Header.{HeaderFields, IsHeader};
+ghost use Rattle.ss_chain.specs.Header.{fields, HeaderFields, IsHeader};
 ghost use Rattle.ss_chain.specs.HeaderReading.{fields_from, header_in, header_of};
 
 use crate::Header;

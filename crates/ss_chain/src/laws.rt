@@ -1,7 +1,7 @@
 //! Laws of the definitions, each the contract of a function that does nothing.
 ghost use Rattle.std.specs.Prelude.{◌≡◌, ◌↔◌, ◌<◌, ℕ, List, Bool, true, Option, Some, None, Contains};
 ghost use Rattle.ss_cid.specs.Maps.{Kept};
-ghost use Rattle.ss_chain.specs.First.{first_of, IsLeast};
+ghost use Rattle.ss_chain.specs.Steps.{first_of, IsLeast};
 ghost use Rattle.ss_chain.specs.Follows.{followed, IsFollowed};
 ghost use Rattle.ss_chain.specs.Reach.{LeadsTo, Reach};
 

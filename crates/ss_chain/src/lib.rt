@@ -37,6 +37,3 @@ pub use memory_blocks::ParcelBlocks;
 pub use ss_cid::Parcel;
 pub use tipset_fault::TipsetFault;
 pub use tipset_rule::tipset;
-
-#[cfg(test)]
-mod tests;

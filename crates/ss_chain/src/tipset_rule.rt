@@ -1,6 +1,6 @@
 //! The rule of a tipset.
 ghost use Rattle.std.specs.Prelude.{◌≡◌, ◌↔◌, ℕ, Ok, ◌<◌, length, map, OnOk};
-ghost use Rattle.ss_chain.specs.Fields.{fields};
+ghost use Rattle.ss_chain.specs.Header.{fields};
 ghost use Rattle.ss_chain.specs.HeaderReading.{header_of};
 ghost use Rattle.ss_chain.specs.Tipset.{IsTipset, tipset_of, cids_fault, common_height, stands_earlier, fault_beside, same_cids, fault_in};
 

@@ -1,8 +1,7 @@
 -- Base32 of RFC 4648, section 6, in lower case and without padding. The bytes, read as one number in base
 -- 256, are followed by fewer than five zero bits up to a whole number of characters; the characters are the
 -- digits of that number in base 32.
-use Rattle.std.specs.Prelude.{ℕ, zero, suc, ◌+◌, ◌-◌, ◌*◌, ◌/◌, ◌%◌, ◌^◌, nat_lt, nat_le, Bool, ◌&&◌, ◌||◌, if◌then◌else◌, List, [], ◌∷◌, ◌++◌, length}
-use Rattle.std.specs.Int.Digits.{number_from_digits}
+use Rattle.std.specs.{Prelude.{ℕ, zero, suc, ◌+◌, ◌-◌, ◌*◌, ◌/◌, ◌%◌, ◌^◌, nat_lt, nat_le, Bool, ◌&&◌, ◌||◌, if◌then◌else◌, List, [], ◌∷◌, ◌++◌, length}, Int.Digits.number_from_digits}
 
 -- so many digits of a number, the most significant first
 unfoldable pub digits : ℕ → ℕ → ℕ → List ℕ

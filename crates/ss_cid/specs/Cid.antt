@@ -1,10 +1,7 @@
 -- CIDs of version 1, by the multiformats specifications of CID and multihash: varint 1, varint codec,
 -- varint hash code, varint digest length, digest. That a CID has at most 72 bytes is this project's own.
 use Rattle.std.specs.Prelude.{◌≡◌, ℕ, ◌+◌, ◌<◌, ◌==◌, nat_lt, if◌then◌else◌, List, ◌++◌, length, take, drop, All, Option, Some, None, Result, Ok, Err}
-use Rattle.ss_cid.specs.declared.fault.CidFault.{CidFault}
-use Rattle.ss_cid.specs.declared.head.Head.{Head}
-use Rattle.ss_cid.specs.Steps.{◌>>=◌}
-use Rattle.ss_cid.specs.Varint.{varint, varint_at}
+use Rattle.ss_cid.specs.{declared.fault.CidFault.CidFault, declared.head.Head.Head, Varint.{varint, varint_at}, Steps.{◌>>=◌}, declared.codec.Codec.Codec, declared.codec.HashCode.HashCode}
 
 -- the bytes of the CID with this codec, hash code and digest
 unfoldable pub cid_bytes : ℕ → ℕ → List ℕ → List ℕ
@@ -77,3 +74,23 @@ unfoldable pub cid_of : ℕ → ℕ → List ℕ → Result (List ℕ) CidFault
 cid_of codec hash digest =
     if nat_lt 72 (length (cid_bytes codec hash digest)) then Err (CidFault.TooLong (length digest))
     else Ok (cid_bytes codec hash digest)
+
+-- the number of each fault, from 1, in the order of the variants; it is this project's own
+abbrev pub number_of : CidFault → ℕ
+number_of (CidFault.Short at) = 1
+number_of (CidFault.LongVarint at) = 2
+number_of (CidFault.NotV1 version) = 3
+number_of (CidFault.TooLong len) = 4
+number_of (CidFault.BadText at) = 5
+
+-- the codecs and hash functions that have a name here, by their numbers in the multicodec table
+abbrev pub codec_named : ℕ → Codec
+codec_named n =
+    if n == 0x55 then Codec.Raw else if n == 0x70 then Codec.DagPb
+    else if n == 0x71 then Codec.DagCbor else if n == 0xf101 then Codec.Unsealed
+    else if n == 0xf102 then Codec.Sealed else Codec.Other n
+
+abbrev pub hash_named : ℕ → HashCode
+hash_named n =
+    if n == 0x00 then HashCode.Identity else if n == 0x12 then HashCode.Sha2x256
+    else if n == 0xb220 then HashCode.Blake2b256 else HashCode.Other n

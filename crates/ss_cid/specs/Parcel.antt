@@ -1,9 +1,6 @@
 -- How a parcel's blocks lie in one buffer.
-use Rattle.std.specs.Prelude.{ℕ, ◌<◌, ◌≤◌, ◌^◌, Bool, ◌&&◌, nat_eq, List, map, length, All}
-use Rattle.std.specs.List.{slice_range}
-use Rattle.std.specs.Cmp.Lexicographic.{pointwise}
-use Rattle.ss_cid.specs.Cid.{IsCid}
-use Rattle.ss_cid.specs.declared.parcel.{Entry.Entry, Parcel.TheInside.Inside}
+use Rattle.std.specs.{Prelude.{ℕ, ◌<◌, ◌≤◌, ◌^◌, Bool, ◌&&◌, nat_eq, List, map, length, All}, List.slice_range, Cmp.Lexicographic.pointwise}
+use Rattle.ss_cid.specs.{Cid.IsCid, declared.parcel.{Entry.Entry, Parcel.TheInside.Inside}}
 
 -- a block's CID and its bytes
 abbrev pub pair_of : List ℕ → Entry → List ℕ × List ℕ

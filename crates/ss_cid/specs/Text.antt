@@ -1,12 +1,7 @@
 -- The text of a CID, by the multibase specification: `b`, the sign of base32 in lower case without padding,
 -- and then the base32 of the bytes. At most 117 characters spell the 72 bytes of the longest CID.
-use Rattle.std.specs.Prelude.{ℕ, ◌+◌, ◌%◌, ◌^◌, ◌==◌, nat_lt, Bool, not, ◌||◌, if◌then◌else◌, List, [], ◌∷◌, length, map, Result, Ok, Err}
-use Rattle.std.specs.List.{position_or_len}
-use Rattle.std.specs.Int.Digits.{number_from_digits}
-use Rattle.ss_cid.specs.declared.fault.CidFault.{CidFault}
-use Rattle.ss_cid.specs.Steps.{◌>>=◌}
-use Rattle.ss_cid.specs.Base32.{letter, is_letter, letter_value, letter_values, spelled_bytes, unused_bits}
-use Rattle.ss_cid.specs.Cid.{cid_at}
+use Rattle.std.specs.{Prelude.{ℕ, ◌+◌, ◌%◌, ◌^◌, ◌==◌, nat_lt, Bool, not, ◌||◌, if◌then◌else◌, List, [], ◌∷◌, length, map, Result, Ok, Err}, List.position_or_len, Int.Digits.number_from_digits}
+use Rattle.ss_cid.specs.{declared.fault.CidFault.CidFault, Base32.{letter, is_letter, letter_value, letter_values, spelled_bytes, unused_bits}, Cid.cid_at, Steps.{◌>>=◌}}
 
 -- the text of a CID: 98 is `b`
 unfoldable pub cid_text : List ℕ → List ℕ

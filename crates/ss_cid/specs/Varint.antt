@@ -1,8 +1,7 @@
 -- Unsigned varints, as the multiformats specification "unsigned-varint" has them: a number in base 128,
 -- the least significant group first, in bytes that have the high bit but for the last one; at most nine
 -- bytes, so below 2 ^ 63, and in the shortest form, which does not end with a zero group.
-use Rattle.std.specs.Prelude.{ℕ, zero, suc, ◌+◌, ◌*◌, ◌/◌, ◌%◌, ◌==◌, nat_lt, if◌then◌else◌, ◌&&◌, List, [], ◌∷◌, length, take, drop, slice_index, Result, Ok, Err}
-use Rattle.std.specs.List.{position_or_len}
+use Rattle.std.specs.{Prelude.{ℕ, zero, suc, ◌+◌, ◌*◌, ◌/◌, ◌%◌, ◌==◌, nat_lt, if◌then◌else◌, ◌&&◌, List, [], ◌∷◌, length, take, drop, slice_index, Result, Ok, Err}, List.position_or_len}
 use Rattle.ss_cid.specs.declared.fault.CidFault.{CidFault}
 
 -- the bytes of a number that has at most so many groups behind the first

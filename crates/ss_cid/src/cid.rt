@@ -3,10 +3,9 @@ ghost use Rattle.std.specs.Prelude.{◌≡◌, ℕ, ◌+◌, ◌<◌, ◌≤◌,
 ghost use Rattle.std.specs.Ordering.{nat_cmp};
 ghost use Rattle.std.specs.Cmp.Lexicographic.{slice_cmp};
 ghost use Rattle.std.specs.Option.{option_copied};
-ghost use Rattle.ss_cid.specs.Cid.{IsCid, cid_at, cid_of, codec_of, hash_of, digest_of, identity_of, cid_head};
+ghost use Rattle.ss_cid.specs.Cid.{IsCid, cid_at, cid_of, codec_of, hash_of, digest_of, identity_of, cid_head, codec_named, hash_named};
 ghost use Rattle.ss_cid.specs.Text.{cid_text, cid_from_text};
 ghost use Rattle.ss_cid.specs.Varint.{varint};
-ghost use Rattle.ss_cid.specs.Codec.{codec_named, hash_named};
 
 use crate::cid_buffer::CidBuffer;
 use crate::codec::{Codec, HASH_IDENTITY, HashCode};

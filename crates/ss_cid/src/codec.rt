@@ -1,6 +1,6 @@
 //! The codecs and hash functions that have a name here, by their numbers in the multicodec table.
 ghost use Rattle.std.specs.Prelude.{◌≡◌};
-ghost use Rattle.ss_cid.specs.Codec.{codec_named, hash_named};
+ghost use Rattle.ss_cid.specs.Cid.{codec_named, hash_named};
 
 /// Bytes as they are.
 pub const CODEC_RAW: u64 = 0x55;

@@ -1,6 +1,6 @@
 //! Why bytes or a text are no CID.
 ghost use Rattle.std.specs.Prelude.{◌≡◌};
-ghost use Rattle.ss_cid.specs.Fault.{number_of};
+ghost use Rattle.ss_cid.specs.Cid.{number_of};
 
 use std::error::Error;
 use std::fmt;

@@ -31,8 +31,6 @@ pub mod laws;
 mod memory;
 mod order;
 mod parcel;
-#[cfg(test)]
-mod tests;
 mod text;
 mod varint;
 

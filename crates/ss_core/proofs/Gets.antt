@@ -1,12 +1,12 @@
 -- What a get finds.
 use Rattle.std.proofs.Common.{◌≡◌, ℕ, ◌≤◌, Bool, true, false, cond, List, length, ◌++◌, take, drop, Option, Some, None, refl, sym, ap, subst, ◌∙◌, true≢false, arith}
+use Rattle.std.specs.Option.{option_or}
 use Rattle.std.specs.Prelude.{◌==◌, is_some, if◌then◌else◌, option_map, Result, Ok, Err, IfOk, MatchResult}
 use Rattle.std.specs.FinMap as finite_map
 use Rattle.std.proofs.lemmas.List.{length-drop, take_at}
 use Rattle.ss_cid.specs.Cid.{cid_head, part_of, hash_of, digest_of, identity_of}
 use Rattle.ss_model.specs.State.{State, Kept}
 use Rattle.ss_chain.specs.Fetch.{fetched}
-use Rattle.ss_chain.specs.Steps.{or_else}
 use Rattle.ss_model.specs.Lawful.{LawfulGet, is_open}
 use Rattle.ss_model.proofs.Kept.{fetched_is as fetched_by}
 use Rattle.ss_disk.specs.declared.disk.Disk.{Ghosts}
@@ -19,7 +19,7 @@ use Rattle.ss_model.specs.declared.call.Answer.TheVariants as answer
 use Rattle.ss_core.specs.declared.split_core.SplitCore.{SplitCore}
 use Rattle.ss_core.specs.Calls.{Steps}
 use Rattle.ss_core.specs.Effect.{no_effect, get_effect, effect_of}
-use Rattle.ss_core.specs.Gets.{len_of, HasLen}
+use Rattle.ss_core.specs.Reads.{len_of, HasLen}
 use Rattle.ss_core.specs.StandsFor.{StandsFor, HasEitherState}
 use Rattle.ss_core.proofs.Idle.{IsIdle, idle, unwritten, doubts_none, doubts_same, stands_still}
 use Rattle.ss_model.specs.declared.call.GetReply.{GetReply}
@@ -28,13 +28,13 @@ use Rattle.ss_model.specs.declared.call.GetReply.TheVariants as get
 -- an identity CID stands for its digest, of which a copy was made or not
 pub digest_lawful : {E : Type 0} (s : State) (v : ℕ) (c digest : List ℕ) (copy : Result (List ℕ) E) (r : GetReply) → is_open s v ≡ true → Some digest ≡ identity_of c → IfOk copy (λ b. b ≡ digest) → MatchResult copy (λ b. r ≡ get.Found b) (λ _. r ≡ get.NoMemory) → LawfulGet s v c r
 digest_lawful s v c digest (Ok b) r opened id copied is =
-    subst (LawfulGet s v c) (sym is) (opened, fetched_by s.kept c ∙ ap (λ i. or_else i (finite_map.get s.kept c)) (sym id) ∙ ap Some (sym copied))
+    subst (LawfulGet s v c) (sym is) (opened, fetched_by s.kept c ∙ ap (λ i. option_or i (finite_map.get s.kept c)) (sym id) ∙ ap Some (sym copied))
 digest_lawful s v c digest (Err e) r opened id copied is =
-    subst (LawfulGet s v c) (sym is) (opened, ap is_some (fetched_by s.kept c) ∙ ap (λ i. is_some (or_else i (finite_map.get s.kept c))) (sym id))
+    subst (LawfulGet s v c) (sym is) (opened, ap is_some (fetched_by s.kept c) ∙ ap (λ i. is_some (option_or i (finite_map.get s.kept c))) (sym id))
 
 -- another CID stands for what is kept under it
 pub fetched_is : (kept : Kept) (c : List ℕ) → None ≡ identity_of c → fetched kept c ≡ finite_map.get kept c
-fetched_is kept c none = fetched_by kept c ∙ ap (λ i. or_else i (finite_map.get kept c)) (sym none)
+fetched_is kept c none = fetched_by kept c ∙ ap (λ i. option_or i (finite_map.get kept c)) (sym none)
 
 -- a digest is no longer than its CID
 digest_short : (c : List ℕ) → length (digest_of c) ≤ length c
@@ -107,11 +107,11 @@ module _ {D : Type 0} (disk : Ghosts D) (s : State) (doubt : Option Record) (v :
 
 -- an identity CID's block has the length of its digest
 pub own_len : (hot : Hot) (c digest : List ℕ) → Some digest ≡ identity_of c → Some (length digest) ≡ len_of hot c
-own_len hot c digest id = ap (λ i. or_else (option_map length i) (option_map (λ (p : Place). p.len) (finite_map.get hot.places c))) id
+own_len hot c digest id = ap (λ i. option_or (option_map length i) (option_map (λ (p : Place). p.len) (finite_map.get hot.places c))) id
 
 -- another's that of its place
 pub place_len : (hot : Hot) (c : List ℕ) → None ≡ identity_of c → option_map (λ (p : Place). p.len) (finite_map.get hot.places c) ≡ len_of hot c
-place_len hot c none = ap (λ i. or_else (option_map length i) (option_map (λ (p : Place). p.len) (finite_map.get hot.places c))) none
+place_len hot c none = ap (λ i. option_or (option_map length i) (option_map (λ (p : Place). p.len) (finite_map.get hot.places c))) none
 
 -- so has a copy of the digest
 pub digest_len : {E : Type 0} (hot : Hot) (c digest : List ℕ) (copy : Result (List ℕ) E) (r : GetReply) → Some digest ≡ identity_of c → IfOk copy (λ b. b ≡ digest) → MatchResult copy (λ b. r ≡ get.Found b) (λ _. r ≡ get.NoMemory) → HasLen (len_of hot c) r

@@ -1,5 +1,6 @@
 -- The steps of a head.
 use Rattle.std.proofs.Common.{◌≡◌, ◌⊎◌, inl, inr, ⊎_elim, ℕ, ◌+◌, ◌<◌, ◌≤◌, Bool, true, false, List, [], ◌∷◌, ◌++◌, length, Option, None, Some, Err, refl, sym, ap, subst, ◌∙◌, true≢false, arith}
+use Rattle.std.specs.Option.{option_or}
 use Rattle.std.specs.Prelude.{option_map, is_some, if◌then◌else◌, slice_get, Result, IsTrue}
 use Rattle.std.specs.Result.{result_ok}
 use Rattle.std.specs.FinMap as finite_map
@@ -7,18 +8,16 @@ use Rattle.ss_disk.specs.declared.disk.Disk.{Ghosts}
 use Rattle.ss_disk.specs.Disk.{Same, Changes, Rose}
 use Rattle.ss_disk.specs.Calls.{Goes, Touches, Leaves}
 use Rattle.ss_disk.proofs.Goes.{stays, leaves_none, leaves_on, then_same, touches_on, touches_none}
-use Rattle.ss_gatelog.specs.Faults.{CountsFault}
-use Rattle.ss_gatelog.specs.GateLog.{HasEither}
+use Rattle.ss_gatelog.specs.GateLog.{CountsFault, HasEither}
 use Rattle.ss_records.specs.declared.record.Config.{Config as Settings}
 use Rattle.ss_records.specs.declared.record.Record.{Record}
 use Rattle.ss_records.specs.declared.record.Record.TheVariants.{Head}
 use Rattle.ss_records.specs.Record.{Fits, IsValue, spelling}
 use Rattle.ss_chain.specs.Fetch.{fetched}
-use Rattle.ss_chain.specs.First.{first_of}
-use Rattle.ss_chain.specs.Steps.{or_else}
+use Rattle.ss_chain.specs.Steps.{first_of}
 use Rattle.ss_chain.specs.Tipset.{cids_fault}
 use Rattle.ss_store.specs.Append.{bodies}
-use Rattle.ss_store.specs.Index.{CidMap}
+use Rattle.ss_store.specs.Places.{CidMap}
 use Rattle.ss_hot.specs.Half.{hot_after, hot_from}
 use Rattle.ss_hot.specs.Store.{Hot, Keeps, SameButDoubt, room_of}
 use Rattle.ss_hot.proofs.Grown.{head_from-push, base_from-push, tells_next}
@@ -34,7 +33,7 @@ use Rattle.ss_model.specs.declared.call.HeadReply.TheVariants as head
 use Rattle.ss_core.specs.declared.split_core.SplitCore.{SplitCore}
 use Rattle.ss_core.specs.Calls.{OfFullLog, Steps, Makes}
 use Rattle.ss_core.specs.Effect.{Effect, effect_of, writes_record, head_effect, head_record}
-use Rattle.ss_core.specs.Heads.{OnlyReads, IsUnread, IsJudgement, IsJudged}
+use Rattle.ss_core.specs.Reads.{OnlyReads, IsUnread, IsJudgement, IsJudged}
 use Rattle.ss_core.specs.StandsFor.{IsLeftBy, AreOfHalf, StandsFor, HasClosed, HasEitherState}
 use Rattle.ss_core.proofs.Idle.{leaves_wider, doubts_none, doubts_same, unwritten, idle, stands_anew}
 use Rattle.ss_core.proofs.Images.{has_closed, own_half, end_of, image_state}
@@ -106,13 +105,13 @@ module _ {D : Type 0} (disk : Ghosts D) (old mid new : SplitCore D disk) (same :
 -- ---- before the log is settled
 
 -- what is refused early is refused
-pub first : (r : HeadReply) (early late : Option HeadReply) → Some r ≡ early → or_else early late ≡ Some r
+pub first : (r : HeadReply) (early late : Option HeadReply) → Some r ≡ early → option_or early late ≡ Some r
 first r (Some r') late is = sym is
 first r None late is = absurd (true≢false (ap is_some is))
 
 -- where the CIDs have no fault, the first that is absent decides
 pub decides : (kept : Kept) (cids : List (List ℕ)) (found : Option HeadReply) → None ≡ option_map answer_of (cids_fault cids) → first_of (absent_at kept cids) (length cids) ≡ found → found ≡ unread_refusal kept cids
-decides kept cids found none is = subst (λ e. found ≡ or_else e (first_of (absent_at kept cids) (length cids))) none (sym is)
+decides kept cids found none is = subst (λ e. found ≡ option_or e (first_of (absent_at kept cids) (length cids))) none (sym is)
 
 -- the CID at a place stands for a block, or does not, as its length tells
 pub is_absent : (kept : Kept) (cids : List (List ℕ)) (i : ℕ) (c : List ℕ) → slice_get cids i ≡ Some c → is_some (option_map length (fetched kept c)) ≡ false → absent_at kept cids i ≡ Some (head.Absent i)

@@ -3,9 +3,9 @@ use Rattle.std.proofs.Common.{◌≡◌, inl, inr, ℕ, ◌≤◌, true, false, 
 use Rattle.std.specs.Prelude.{is_some}
 use Rattle.ss_disk.specs.declared.disk.Disk.{Ghosts}
 use Rattle.ss_disk.specs.Calls.{Leaves}
+use Rattle.ss_disk.specs.Disk.{Changes}
 use Rattle.ss_disk.proofs.Goes.{leaves_none}
 use Rattle.ss_disk.proofs.Moments as moments
-use Rattle.ss_disk.specs.Disk.{Changes}
 use Rattle.ss_records.specs.declared.record.Config.{Config as Settings}
 use Rattle.ss_records.specs.declared.record.Record.{Record}
 use Rattle.ss_records.specs.declared.record.Record.TheVariants.{Config, Generation, Put, Dropped, Head, Base, Start, Cold, Sealed, Copied, Purged}

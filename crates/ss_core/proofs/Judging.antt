@@ -4,7 +4,7 @@ use Rattle.std.specs.Prelude.{slice_get, is_some, option_map, unwrap_or}
 use Rattle.std.proofs.lemmas.Option.{slice_get-map}
 use Rattle.std.proofs.lemmas.List.{length-map}
 use Rattle.ss_chain.specs.Fetch.{fetched}
-use Rattle.ss_chain.specs.First.{first_of}
+use Rattle.ss_chain.specs.Steps.{first_of}
 use Rattle.ss_chain.specs.Header.{HeaderFields}
 use Rattle.ss_chain.specs.HeaderReading.{header_of}
 use Rattle.ss_chain.specs.Tipset.{tipset_of, common_height, fault_beside, header_at, fault_in}
@@ -16,7 +16,7 @@ use Rattle.ss_model.specs.Head.{answer_of, blocks_of, unread_refusal, head_refus
 use Rattle.ss_model.specs.declared.call.HeadReply.{HeadReply}
 use Rattle.ss_model.specs.declared.call.HeadReply.TheVariants as head
 use Rattle.ss_model.proofs.Heads.{unread_is}
-use Rattle.ss_core.specs.Heads.{IsFirst, IsJudged}
+use Rattle.ss_core.specs.Reads.{IsFirst, IsJudged}
 
 -- The first block is a header of this height and these parents, and none of the blocks before place i differs from it.
 pub record IsJudgedTo (kept : Kept) (cids : List (List ℕ)) (height : ℕ) (parents : List (List ℕ)) (i : ℕ) : Type 0 where

@@ -13,7 +13,7 @@ use Rattle.std.proofs.lemmas.List.Quantifiers.{position-Some}
 use Rattle.std.specs.List.{position, position_or_len}
 use Rattle.std.specs.Prelude.{None, Some, is_some, not, cond, ◌&&◌, slice_set}
 use Rattle.ss_model.specs.State.{ViewSet}
-use Rattle.ss_core.specs.Views.{marked_from}
+use Rattle.ss_core.specs.Calls.{marked_from}
 
 pub below_none : (at : ℕ) (marks : List Bool) (n : ℕ) → n < at → set.contains (marked_from at marks) n ≡ false
 below_none at [] n below = contains-empty nat_cmp n

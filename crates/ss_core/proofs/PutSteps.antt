@@ -11,7 +11,7 @@ use Rattle.ss_records.specs.declared.record.Record.{Record}
 use Rattle.ss_records.specs.declared.record.Record.TheVariants.{Put}
 use Rattle.ss_records.specs.Record.{Fits, IsValue, BlockFits, spelling}
 use Rattle.ss_store.specs.Append.{bodies}
-use Rattle.ss_store.specs.Index.{CidMap, with_pairs}
+use Rattle.ss_store.specs.Places.{CidMap, with_pairs}
 use Rattle.ss_store.specs.declared.place.Place.{Place}
 use Rattle.ss_hot.specs.Half.{hot_after, hot_from}
 use Rattle.ss_hot.specs.Store.{Hot, Keeps, SameButDoubt, AreNotHot, room_of}

@@ -1,5 +1,6 @@
 -- What a put of the new blocks of a parcel does to a store of which exactly the kept blocks are hot.
 use Rattle.std.proofs.Common.{◌≡◌, ◌≢◌, ℕ, suc, ◌+◌, ◌≤◌, Bool, true, false, cond, List, [], ◌∷◌, length, Option, Some, None, refl, sym, ap, ◌∙◌, subst, true≢false, arith}
+use Rattle.std.specs.Option.{option_or}
 use Rattle.std.specs.Prelude.{◌==◌, ◌||◌, if◌then◌else◌, is_some, sum_by, All}
 use Rattle.std.specs.Ordering.{nat_cmp, eq_by_cmp}
 use Rattle.std.specs.Cmp.{Equal-is}
@@ -12,11 +13,10 @@ use Rattle.std.proofs.lemmas.List.Elements.{All-nil, All-cons, All-weaker}
 use Rattle.std.proofs.lemmas.List.Sums.{sum_by-cons, sum_by-le-sum_by}
 use Rattle.ss_cid.specs.Cid.{hash_of, digest_of, identity_of}
 use Rattle.ss_records.specs.Record.{BlockFits}
-use Rattle.ss_store.specs.Index.{CidMap, with_pairs}
+use Rattle.ss_store.specs.Places.{CidMap, with_pairs}
 use Rattle.ss_store.specs.declared.place.Place.{Place}
 use Rattle.ss_model.specs.State.{Kept, CidSet}
 use Rattle.ss_model.specs.Lawful.{is_known, with_block, with_blocks, with_hot_cid, with_hot, is_left_out, new_pairs, body_bytes, put_bytes, written_bytes, pair_bytes, AreSound}
-use Rattle.ss_chain.specs.Steps.{or_else}
 use Rattle.ss_model.proofs.Kept.{known_is}
 use Rattle.ss_core.specs.Puts.{cids_of}
 
@@ -41,7 +41,7 @@ left_out : (kept : Kept) (hot : CidSet) (c : List ℕ) → AreAlike kept hot →
 unfolding is_left_out
 left_out kept hot c alike = go (identity_of c) ∙ sym (known_is kept c)
   where
-    go : (id : Option (List ℕ)) → (is_some id || finite_set.contains hot c) ≡ is_some (or_else id (finite_map.get kept c))
+    go : (id : Option (List ℕ)) → (is_some id || finite_set.contains hot c) ≡ is_some (option_or id (finite_map.get kept c))
     go (Some d) = refl
     go None = alike c
 
@@ -78,7 +78,7 @@ block_more kept hot p alike =
     by_known true e = λ c. contains-insert nat_list_cmp_total hot p.0 c ∙ again c _ refl e
     by_known false e = both_insert kept hot p alike
 
-    by_identity : (id : Option (List ℕ)) → AreAlike (cond (is_some (or_else id (finite_map.get kept p.0))) kept (finite_map.insert kept p.0 p.1)) (cond (is_some id) hot (finite_set.insert hot p.0))
+    by_identity : (id : Option (List ℕ)) → AreAlike (cond (is_some (option_or id (finite_map.get kept p.0))) kept (finite_map.insert kept p.0 p.1)) (cond (is_some id) hot (finite_set.insert hot p.0))
     by_identity (Some d) = alike
     by_identity None = by_known (is_some (finite_map.get kept p.0)) refl
 
@@ -88,7 +88,7 @@ hot_more kept hot [] alike = alike
 hot_more kept hot (p ∷ pairs) alike = hot_more (with_block kept p) (with_hot_cid hot p.0) pairs (block_more kept hot p alike)
 
 -- where nothing is fetched nothing is kept
-none_kept : (id kept : Option (List ℕ)) → is_some (or_else id kept) ≡ false → is_some kept ≡ false
+none_kept : (id kept : Option (List ℕ)) → is_some (option_or id kept) ≡ false → is_some kept ≡ false
 none_kept (Some d) kept e = absurd (true≢false e)
 none_kept None kept e = e
 

@@ -7,7 +7,7 @@ use Rattle.ss_disk.specs.Disk.{Files}
 use Rattle.ss_gatelog.specs.Log.{spelled}
 use Rattle.ss_records.specs.declared.record.Record.{Record}
 use Rattle.ss_store.specs.Append.{bodies}
-use Rattle.ss_store.specs.Index.{CidMap}
+use Rattle.ss_store.specs.Places.{CidMap}
 use Rattle.ss_hot.specs.Half.{hot_blocks, head_of, base_of}
 use Rattle.ss_hot.proofs.Readings.{settings_once, records_once}
 use Rattle.ss_hot.proofs.Reopened.{kept_half}

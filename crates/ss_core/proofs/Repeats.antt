@@ -2,7 +2,7 @@
 use Rattle.std.proofs.Common.{◌≡◌, ℕ, ◌+◌, ◌<◌, ◌≤◌, true, false, List, length, take, Some, None, refl, sym}
 use Rattle.std.specs.Prelude.{slice_get, option_map}
 use Rattle.std.specs.List.{list_any}
-use Rattle.ss_chain.specs.First.{first_of}
+use Rattle.ss_chain.specs.Steps.{first_of}
 use Rattle.ss_chain.specs.Tipset.{same_cid, stands_earlier, repeat_at, cids_fault}
 use Rattle.ss_chain.proofs.Firsts.{first_of-next, first_of-found, list_any-found}
 use Rattle.ss_chain.proofs.Tipsets.{count-none}

@@ -13,7 +13,7 @@ use Rattle.ss_model.specs.declared.call.HeadReply.{HeadReply}
 use Rattle.ss_model.specs.declared.call.HeadReply.TheVariants as head
 use Rattle.ss_core.specs.declared.split_core.SplitCore.{SplitCore}
 use Rattle.ss_core.specs.Calls.{Steps, Makes}
-use Rattle.ss_core.specs.Fault.{IsStop, put_fault, head_fault}
+use Rattle.ss_core.specs.Reads.{IsStop, put_fault, head_fault}
 
 -- a fault is one where the log is not full and the file not damaged
 pub is_stop : (f : StoreFault) → ((file need room : ℕ) → f ≡ fault.LogFull file need room → ⊥) → ((file at : ℕ) → f ≡ fault.Damaged file at → ⊥) → IsStop f

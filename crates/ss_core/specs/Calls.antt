@@ -1,20 +1,26 @@
 -- What a call of a store does: to the state that it stands for, and over any disk.
-use Rattle.std.specs.Prelude.{◌≡◌, ◌⊎◌, ℕ, ◌+◌, ◌≤◌, true, false, Option, IsTrue}
-use Rattle.ss_disk.specs.declared.disk.Disk.{Ghosts}
-use Rattle.ss_disk.specs.Disk.{Same, Rose}
-use Rattle.ss_disk.specs.Calls.{Goes, Touches, Leaves}
+use Rattle.std.specs.Prelude.{◌≡◌, ◌⊎◌, ℕ, ◌+◌, ◌≤◌, true, false, Option, IsTrue, suc, ◌<◌, Bool, List, [], ◌∷◌}
+use Rattle.ss_disk.specs.{declared.disk.Disk.Ghosts, Disk.{Same, Rose}, Calls.{Goes, Touches, Leaves}}
 use Rattle.ss_records.specs.declared.record.Record.{Record}
 use Rattle.ss_hot.specs.Store.{room_of}
-use Rattle.ss_model.specs.State.{State}
-use Rattle.ss_model.specs.Lawful.{Lawful, After, is_disk_fault, is_no_memory}
-use Rattle.ss_model.specs.declared.call.Call.{Call}
-use Rattle.ss_model.specs.declared.call.Answer.{Answer}
+use Rattle.ss_model.specs.{State.{State, ViewSet}, Lawful.{Lawful, After, is_disk_fault, is_no_memory}, declared.call.Call.Call, declared.call.Answer.Answer, declared.TheConstants.VIEWS, declared.call.ViewReply.ViewReply}
+use Rattle.ss_core.specs.{declared.split_core.SplitCore.SplitCore, Effect.{effect_of, bytes_of, Doubts}, StandsFor.{StandsFor, HasEitherState}}
 use Rattle.ss_model.specs.declared.call.Answer.TheVariants as answer
 use Rattle.ss_model.specs.declared.call.PutReply.TheVariants as put
 use Rattle.ss_model.specs.declared.call.HeadReply.TheVariants as head
-use Rattle.ss_core.specs.declared.split_core.SplitCore.{SplitCore}
-use Rattle.ss_core.specs.Effect.{effect_of, bytes_of, Doubts}
-use Rattle.ss_core.specs.StandsFor.{StandsFor, HasEitherState}
+use Rattle.std.specs.FinSet as finite_set
+use Rattle.ss_model.specs.declared.call.ViewReply.TheVariants as view
+
+-- the open views as a set of numbers: the places of what is true, counted from this number on
+abbrev pub marked_from : ℕ → List Bool → ViewSet
+marked_from at [] = finite_set.empty
+marked_from at (true ∷ marks) = finite_set.insert (marked_from (suc at) marks) at
+marked_from at (false ∷ marks) = marked_from (suc at) marks
+
+-- over any disk, the view that was not open is, or all are
+abbrev pub OpensView : ViewSet → ViewSet → ViewReply → Type 0
+OpensView old new (view.Opened n) = (n < VIEWS) × (finite_set.contains old n ≡ false) × (new ≡ finite_set.insert old n)
+OpensView old new view.TooManyViews = (k : ℕ) → k < VIEWS → finite_set.contains old k ≡ true
 
 -- The step of a store that stood for s, where this record was in doubt, over a disk that exposes its files: the answer is lawful
 -- at s, and the store stands for the state after it. Each image since the call began has one of the two states, with or without

@@ -1,24 +1,13 @@
--- What an entry means for the log: the record that it writes, the one that it may leave in doubt, for how many bytes there was
--- room, and whether it called the disk.
-use Rattle.std.specs.Prelude.{◌≡◌, ◌⊎◌, ℕ, ◌+◌, Bool, true, false, List, [], ◌∷◌, length, Option, None, Some, if◌then◌else◌, is_some, option_map}
-use Rattle.std.specs.Result.{result_ok}
+-- What an entry means for the log: its record, the one it may leave in doubt, for how many bytes there was room, and if it called the disk.
+use Rattle.std.specs.{Prelude.{◌≡◌, ◌⊎◌, ℕ, ◌+◌, Bool, true, false, List, [], ◌∷◌, length, Option, None, Some, if◌then◌else◌, is_some, option_map}, Result.result_ok}
 use Rattle.ss_cid.specs.Cid.{identity_of}
-use Rattle.ss_records.specs.declared.record.Record.{Record}
-use Rattle.ss_records.specs.declared.record.Record.TheVariants.{Put, Head}
-use Rattle.ss_records.specs.Record.{spelling}
+use Rattle.ss_records.specs.{declared.record.Record.Record, declared.record.Record.TheVariants.{Put, Head}, Record.spelling}
 use Rattle.ss_chain.specs.Tipset.{tipset_of}
-use Rattle.ss_model.specs.State.{Kept, State}
-use Rattle.ss_model.specs.Head.{blocks_of}
-use Rattle.ss_model.specs.Lawful.{new_pairs}
-use Rattle.ss_model.specs.declared.call.Call.{Call}
+use Rattle.ss_model.specs.{State.{Kept, State}, Head.blocks_of, Lawful.new_pairs, declared.call.Call.Call, declared.call.Answer.Answer, declared.call.PutReply.PutReply, declared.call.GetReply.GetReply, declared.call.HeadReply.HeadReply}
 use Rattle.ss_model.specs.declared.call.Call.TheVariants as call
-use Rattle.ss_model.specs.declared.call.Answer.{Answer}
 use Rattle.ss_model.specs.declared.call.Answer.TheVariants as answer
-use Rattle.ss_model.specs.declared.call.PutReply.{PutReply}
 use Rattle.ss_model.specs.declared.call.PutReply.TheVariants as put
-use Rattle.ss_model.specs.declared.call.GetReply.{GetReply}
 use Rattle.ss_model.specs.declared.call.GetReply.TheVariants as get
-use Rattle.ss_model.specs.declared.call.HeadReply.{HeadReply}
 use Rattle.ss_model.specs.declared.call.HeadReply.TheVariants as head
 
 -- the bytes that a record takes of a log: its gate, a length of four bytes, and its body

@@ -1,24 +1,14 @@
 -- What comes of a put, in steps: whether its parcel passes, why it is refused, which blocks are new, and what settling the log does.
-use Rattle.std.specs.Prelude.{◌≡◌, ℕ, ◌+◌, ◌-◌, ◌^◌, ◌<◌, ◌≤◌, min, max, Bool, false, List, [], map, length, Option, None, Some, is_some, Result, Ok, Err, option_map, slice_get, sum_by}
-use Rattle.std.specs.Option.{unwrap_or}
-use Rattle.ss_disk.specs.declared.disk.Disk.{Ghosts}
-use Rattle.ss_disk.specs.Calls.{Leaves}
+use Rattle.std.specs.{Prelude.{◌≡◌, ℕ, ◌+◌, ◌-◌, ◌^◌, ◌<◌, ◌≤◌, min, max, Bool, false, List, [], map, length, Option, None, Some, is_some, Result, Ok, Err, option_map, slice_get, sum_by}, Option.unwrap_or}
+use Rattle.ss_disk.specs.{declared.disk.Disk.Ghosts, Calls.Leaves}
 use Rattle.ss_records.specs.declared.record.Record.{Record}
-use Rattle.ss_model.specs.State.{State, CidSet}
-use Rattle.ss_model.specs.Lawful.{AreSound, IsFirstFault, body_bytes, IsDagCbor, IsPairFault}
-use Rattle.ss_model.specs.declared.TheConstants.{PUT_BLOCKS, PUT_BYTES}
-use Rattle.ss_model.specs.declared.call.PutReply.{PutReply}
-use Rattle.ss_core.specs.declared.split_core.SplitCore.{SplitCore}
-use Rattle.ss_core.specs.StandsFor.{StandsFor, HasEitherState}
-use Rattle.ss_cbor.specs.Fault.{scanned}
-use Rattle.ss_cbor.specs.declared.fault.CborFault.{CborFault}
-use Rattle.ss_core.specs.declared.blocks.BlockFault.{BlockFault}
+use Rattle.ss_model.specs.{State.{State, CidSet}, Lawful.{AreSound, IsFirstFault, body_bytes, IsDagCbor, IsPairFault}, declared.TheConstants.{PUT_BLOCKS, PUT_BYTES}, declared.call.PutReply.PutReply}
+use Rattle.ss_core.specs.{declared.split_core.SplitCore.SplitCore, StandsFor.{StandsFor, HasEitherState}, declared.blocks.BlockFault.BlockFault, declared.fresh.{Fresh.Fresh, Looked.Looked}}
+use Rattle.ss_cbor.specs.{Fault.scanned, declared.fault.CborFault.CborFault}
 use Rattle.std.specs.FinMap as finite_map
 use Rattle.std.specs.FinSet as finite_set
-use Rattle.ss_store.specs.Index.{CidMap}
-use Rattle.ss_store.specs.declared.place.Place.{Place}
+use Rattle.ss_store.specs.{Places.CidMap, declared.place.Place.Place}
 use Rattle.ss_hot.specs.Store.{Hot, AreNotHot}
-use Rattle.ss_core.specs.declared.fresh.{Fresh.Fresh, Looked.Looked}
 
 -- the parcel has no more blocks and bytes than a put may have, and each may be stored
 pub record IsReady (pairs : List (List ℕ × List ℕ)) : Type 0 where
@@ -42,8 +32,7 @@ held_bytes places p = length p.0 + 4 + max (length p.1) (unwrap_or (option_map (
 abbrev pub held_put_bytes : CidMap Place → List (List ℕ × List ℕ) → ℕ
 held_put_bytes places pairs = 3 + sum_by (held_bytes places) pairs
 
--- A put that is refused before memory is asked for leaves the store as it was, and this is why, over any disk: by the views that are
--- open, the parcel, and the places of the blocks.
+-- Why a put is refused before memory is asked for, over any disk: by the open views, the parcel and the blocks' places. The store stays.
 abbrev pub IsDueTo : {D : Type 0} {disk : Ghosts D} → SplitCore D disk → SplitCore D disk → ℕ → List (List ℕ × List ℕ) → PutReply → Type 0
 IsDueTo old new v pairs PutReply.BadView = (new ≡ old) × (finite_set.contains old.views v ≡ false)
 IsDueTo old new v pairs (PutReply.TooMany n) = (new ≡ old) × (PUT_BLOCKS < length pairs)

@@ -6,16 +6,11 @@ use Rattle.ss_disk.specs.declared.disk.Disk.{Ghosts}
 use Rattle.ss_gatelog.specs.Log.{spelled}
 use Rattle.ss_records.specs.declared.record.{Config.Config as Settings, Record.Record}
 use Rattle.ss_store.specs.Append.{bodies}
-use Rattle.ss_hot.specs.Half.{AreInPlace, settings_of, hot_blocks, head_of, base_of}
-use Rattle.ss_hot.specs.File.{IsHalf}
-use Rattle.ss_hot.specs.Store.{Keeps}
-use Rattle.ss_model.specs.State.{State, closed}
-use Rattle.ss_model.specs.Lawful.{after_put}
-use Rattle.ss_model.specs.declared.call.PutReply.{PutReply}
+use Rattle.ss_hot.specs.{Half.{AreInPlace, settings_of, hot_blocks, head_of, base_of}, File.IsHalf, Store.Keeps}
+use Rattle.ss_model.specs.{State.{State, closed}, Lawful.after_put, declared.call.PutReply.PutReply}
 use Rattle.ss_core.specs.declared.split_core.SplitCore.{SplitCore}
 
--- The records of a store with these settings leave this state, but for its views. All blocks that are kept are hot, and the
--- table has a row for each.
+-- The records of a store with these settings leave this state, but for its views: all kept blocks are hot, and there is a row for each.
 pub record IsLeftBy (settings : Settings) (records : List Record) (s : State) : Type 0 where
   pub config : s.config ≡ settings
   pub kept : s.kept ≡ hot_blocks records
@@ -59,8 +54,7 @@ state_with s (Some (Record.Put pairs)) = after_put s pairs (PutReply.Stored 0)
 state_with s (Some (Record.Head height cids)) = record s { head = Some (height, cids) }
 state_with s (Some _) = s
 
--- A store stands for this state, where this record is in doubt: each image now has its records, or where one is in doubt, those
--- with that one more.
+-- A store stands for this state: each image now has its records, or, where a record is in doubt, those with that one more.
 pub record StandsFor {D : Type 0} {disk : Ghosts D} (core : SplitCore D disk) (s : State) (doubt : Option Record) : Type 0 where
   pub records : List Record
   pub keeps : Keeps disk core.disk core.hot records (with_doubt records doubt)
@@ -74,7 +68,6 @@ pub record StandsFor {D : Type 0} {disk : Ghosts D} (core : SplitCore D disk) (s
 abbrev pub HasClosed : State → List ℕ → Type 0
 HasClosed s file = (end : ℕ) × HasState file end (closed s)
 
--- what an image of the file may have where this record is in doubt: the state with its views closed, or the one that the record
--- would make
+-- what an image of the file may have: the state with its views closed, or the one that the record in doubt would make
 abbrev pub HasEitherState : State → Option Record → List ℕ → Type 0
 HasEitherState s doubt file = HasClosed s file ⊎ HasClosed (state_with s doubt) file

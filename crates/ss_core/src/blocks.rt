@@ -1,8 +1,7 @@
 //! Which blocks may be stored, and how many bytes a record of them has.
 
 ghost use Rattle.std.specs.Prelude.{◌≡◌, ◌^◌, ◌<◌, ℕ, List, OnOk, IfErr, IsOk, MatchOption};
-ghost use Rattle.ss_cid.specs.Cid.{codec_of};
-ghost use Rattle.ss_cid.specs.Codec.{codec_named};
+ghost use Rattle.ss_cid.specs.Cid.{codec_of, codec_named};
 ghost use Rattle.ss_model.specs.Lawful.{IsSound, AreSound, IsDagCbor, IsFirstFault, body_bytes};
 ghost use Rattle.ss_cbor.specs.Fault.{scanned};
 ghost use Rattle.ss_core.specs.Puts.{IsFaultOf, IsMalformed, refusal_of};

@@ -1,7 +1,7 @@
 //! The blocks of a parcel that are new to a store.
 
 ghost use Rattle.std.specs.Prelude.{◌<◌, ◌≤◌, length, All, IfOk};
-ghost use Rattle.ss_store.specs.Index.{CidMap};
+ghost use Rattle.ss_store.specs.Places.{CidMap};
 ghost use Rattle.ss_store.specs.declared.place.Place.{Place};
 ghost use Rattle.ss_model.specs.Lawful.{new_pairs};
 ghost use Rattle.ss_model.specs.declared.TheConstants.{PUT_BLOCKS};

@@ -48,16 +48,15 @@ pub struct SplitCore<D: Disk> {
 
 impl<D: Disk> SplitCore<D> {
     ghost use Rattle.ss_disk.specs.Calls.{Touches};
-    ghost use Rattle.ss_gatelog.specs.Faults.{CountsFault};
+    ghost use Rattle.ss_gatelog.specs.GateLog.{CountsFault};
     ghost use Rattle.ss_store.specs.declared.fault.StoreFault.TheVariants as fault;
     ghost use Rattle.ss_hot.specs.Store.{Keeps, SameButDoubt};
     ghost use Rattle.ss_model.specs.State.{State};
     ghost use Rattle.ss_model.specs.declared.call.Call.TheVariants as call_kind;
     ghost use Rattle.ss_model.specs.declared.call.Answer.TheVariants as answer;
-    ghost use Rattle.ss_core.specs.Calls.{Steps, Makes};
+    ghost use Rattle.ss_core.specs.Calls.{Steps, Makes, OpensView};
     ghost use Rattle.ss_core.specs.Puts.{Settles};
     ghost use Rattle.ss_core.specs.StandsFor.{IsLeftBy, StandsFor};
-    ghost use Rattle.ss_core.specs.Views.{OpensView};
 
     /// The store of these parts, in which no view is open. The disk is not called.
     ///

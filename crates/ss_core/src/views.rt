@@ -16,13 +16,14 @@ pub(crate) struct Views {
 
 impl Model for Views {
     ghost use Rattle.ss_model.specs.State.{ViewSet};
-    ghost use Rattle.ss_core.specs.Views.{marked_from};
     ghost use Rattle.std.specs.Coded.{coded_ℕ};
     ghost use Rattle.std.specs.FinSet as finite_set;
 
     ghost Value = { ViewSet };
 
     ghost coded = { finite_set.code coded_ℕ };
+
+    ghost use Rattle.ss_core.specs.Calls.{marked_from};
 
     ghost view = { λ v. marked_from 0 v.open };
 }

@@ -1,7 +1,6 @@
 -- What calls on any disk did, in the words of its ghost members: for the contracts of what stands on a disk.
 use Rattle.std.specs.Prelude.{◌≡◌, ◌≤◌, ℕ, List, IsTrue}
-use Rattle.ss_disk.specs.declared.disk.Disk.{Ghosts}
-use Rattle.ss_disk.specs.Disk.{Files, Changes, Evolves}
+use Rattle.ss_disk.specs.{declared.disk.Disk.Ghosts, Disk.{Files, Changes, Evolves}}
 
 -- Calls took a disk from one state to another. Where it exposes its files, they and each image went by this step. No known
 -- length fell, nor the count of faults, and what the disk borrows stayed.

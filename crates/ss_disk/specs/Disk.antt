@@ -1,5 +1,4 @@
--- The disk of this project, which follows no standard: files under one clock, what a read of them gives, and what a crash may
--- leave. docs/MODEL.md has its rules in words.
+-- The disk of this project: files under one clock, what a read gives, and what a crash may leave. docs/MODEL.md has its rules in words.
 use Rattle.std.specs.Prelude.{◌≡◌, ◌≢◌, ◌+◌, ◌-◌, ◌^◌, ◌<◌, ◌≤◌, ℕ, max, min, List, ◌++◌, length, take, drop, Result, OnOk, OnErr}
 
 -- the content of each file, by the file's number
@@ -10,8 +9,7 @@ Files = ℕ → List ℕ
 abbrev pub Holds : ℕ → List ℕ → List ℕ → List ℕ → Type 0
 Holds at bytes old new = new ≡ take at old ++ (bytes ++ drop (at + length bytes) old)
 
--- the new content has any bytes in the n places from `at` on, and those of the old one elsewhere; where the range
--- passes the old end, the length is any between
+-- the new content has any bytes in the n places from `at` on, elsewhere the old ones; where these pass the old end its length is any between
 pub record Torn (at n : ℕ) (old new : List ℕ) : Type 0 where
   pub before : take at new ≡ take at old
   pub after : drop (at + n) new ≡ drop (at + n) old

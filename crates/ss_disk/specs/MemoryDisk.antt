@@ -1,10 +1,6 @@
 -- What contracts see of a disk in memory.
-use Rattle.std.specs.Prelude.{◌≡◌, ◌⊎◌, ℕ, ◌+◌, List, [], ◌∷◌, ◌++◌, length, take, slice_index, Contains, Vec, Result, IsErr, OnOk}
-use Rattle.std.specs.declared.alloc.Global.{Global}
-use Rattle.ss_disk.specs.declared.memory.MemoryDisk.{MemoryDisk}
-use Rattle.ss_disk.specs.declared.memory.call.DeviceCall.{DeviceCall}
-use Rattle.ss_disk.specs.Disk.{Files, Holds, Changes}
-use Rattle.ss_disk.specs.Memory.{contents, Image}
+use Rattle.std.specs.{Prelude.{◌≡◌, ◌⊎◌, ℕ, ◌+◌, List, [], ◌∷◌, ◌++◌, length, take, slice_index, Contains, Vec, Result, IsErr, OnOk}, declared.alloc.Global.Global}
+use Rattle.ss_disk.specs.{declared.memory.MemoryDisk.MemoryDisk, declared.memory.call.DeviceCall.DeviceCall, Disk.{Files, Holds, Changes}, Memory.{contents, Image}}
 
 -- what a read of each file gives
 abbrev pub files_of : MemoryDisk → Files
@@ -22,8 +18,7 @@ image_of disk call = Image disk.first (take call disk.calls.items)
 abbrev pub listed : MemoryDisk → List ℕ
 listed disk = disk.failing.items
 
--- No call was made yet, so that a crash leaves what a read gives; no length is known, no call is to fail, and no fault
--- was counted.
+-- No call was made yet: a crash leaves what a read gives, no length is known, no call is to fail, and no fault was counted.
 pub record IsFresh (disk : MemoryDisk) : Type 0 where
   pub no_calls : moment_of disk ≡ 0
   pub settled : (t : ℕ) (files : Files) → image_of disk t files → files ≡ files_of disk

@@ -23,8 +23,6 @@ mod disk;
 mod fault;
 mod folder;
 mod memory;
-#[cfg(test)]
-mod tests;
 
 pub use disk::Disk;
 pub use fault::{DiskFault, NoMemory};

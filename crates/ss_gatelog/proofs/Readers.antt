@@ -7,10 +7,9 @@ use Rattle.ss_disk.specs.Calls.{Goes}
 use Rattle.ss_disk.proofs.Goes.{stays}
 use Rattle.ss_gatelog.specs.Log.{spelled, HasRecords, HasList, Spells}
 use Rattle.ss_gatelog.specs.GateLog.{IsSure, Opens}
-use Rattle.ss_gatelog.specs.Gate.{LeadTo, IsPiece}
+use Rattle.ss_gatelog.specs.Gate.{LeadTo, IsPiece, Reader, HasLent, Lends}
 use Rattle.ss_gatelog.specs.declared.fault.RecordsFault.{RecordsFault}
 use Rattle.ss_gatelog.specs.declared.fault.RecordsFault.TheVariants.{NoMemory, DiskFault, Damaged}
-use Rattle.ss_gatelog.specs.Records.{Reader, HasLent, Lends}
 use Rattle.ss_gatelog.proofs.Logs.{settled_on, opens_short}
 use Rattle.ss_gatelog.proofs.Pieces.{piece_body, piece_behind}
 

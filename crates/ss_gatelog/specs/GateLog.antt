@@ -1,11 +1,9 @@
--- What a gate log stands for over a disk: in what a read gives, and in each image that a crash may leave.
-use Rattle.std.specs.Prelude.{◌≡◌, ◌⊎◌, ◌<◌, ℕ, Bool, MatchBool, List, length, take, drop, ◌-◌}
-use Rattle.ss_disk.specs.declared.disk.Disk.{Ghosts}
-use Rattle.ss_disk.specs.Disk.{Files}
+-- What a gate log stands for over a disk, in what a read gives and in each image that a crash may leave; and faults by the count of faults.
+use Rattle.std.specs.Prelude.{◌≡◌, ◌⊎◌, ◌<◌, ℕ, Bool, MatchBool, List, length, take, drop, ◌-◌, ◌≤◌, Result, Err}
+use Rattle.ss_disk.specs.{declared.disk.Disk.Ghosts, Disk.{Files, Rose}}
 use Rattle.ss_gatelog.specs.Log.{spelled, AreBodies, Spells, InDoubt, HasList, IsShort}
 
--- a log: its file, how many of the file's bytes it may use, the place of its first closed gate, and whether that gate's
--- state is in doubt
+-- a log: its file, how many of its bytes it may use, the place of its first closed gate, and whether that gate is in doubt
 pub record Log : Type 0 where
   pub file : ℕ
   pub limit : ℕ
@@ -34,11 +32,16 @@ Stands disk now log front more = MatchBool log.unsure (IsDoubted disk now log fr
 abbrev pub HasEither : ℕ → List (List ℕ) → List (List ℕ) → List ℕ → Type 0
 HasEither limit front more file = HasList limit file front ⊎ HasList limit file more
 
--- What opening does to an image of its file: nothing, or, where a read gave no more than a byte, it leaves one that has no
--- more either.
+-- What opening does to an image of its file: nothing, or, where no more than a byte was read, it leaves one that has no more.
 abbrev pub Opens : List ℕ → List ℕ → List ℕ → Type 0
 Opens read was now = (now ≡ was) ⊎ (IsShort read × IsShort now)
 
 -- what stands between the four bytes and the last of a frame
 abbrev pub body_of : List ℕ → List ℕ
 body_of frame = take (length frame - 5) (drop 4 frame)
+
+-- A call answers the disk's fault only where the count of faults rose, and anything else only where it did not.
+pub record CountsFault {T E : Type 0} (fault : E) (before now : ℕ) (result : Result T E) : Type 0 where
+  pub later : before ≤ now
+  pub rose : result ≡ Err fault → Rose before now
+  pub kept : (result ≡ Err fault) ⊎ (now ≡ before)

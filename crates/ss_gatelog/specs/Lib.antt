@@ -1,7 +1,5 @@
 pub mod Log
 pub mod GateLog
 pub mod Gate
-pub mod Faults
-pub mod Records
 pub use Rattle.ss_disk.specs.Disk
 pub use Rattle.ss_disk.specs.Calls

@@ -1,8 +1,7 @@
 -- The bytes of a gate log, a form of this project's own. A file is a row of records and then a closed gate. A record is an
 -- open gate, the length of its body in four bytes, the most significant first, and the body. A gate is open exactly where
 -- its byte is a5. What stands behind the first closed gate counts for nothing.
-use Rattle.std.specs.Prelude.{◌≡◌, ◌≢◌, ◌⊎◌, ◌+◌, ◌<◌, ◌≤◌, ℕ, List, [], ◌∷◌, ◌++◌, length, take}
-use Rattle.std.specs.Int.{w32, to_be_bytes}
+use Rattle.std.specs.{Prelude.{◌≡◌, ◌≢◌, ◌⊎◌, ◌+◌, ◌<◌, ◌≤◌, ℕ, List, [], ◌∷◌, ◌++◌, length, take}, Int.{w32, to_be_bytes}}
 
 -- an open gate
 abbrev pub open_gate : ℕ
@@ -46,8 +45,7 @@ pub record HasRecords (limit : ℕ) (file : List ℕ) (records : List (List ℕ)
 abbrev pub HasList : ℕ → List ℕ → List (List ℕ) → Type 0
 HasList limit file records = (IsShort file × (records ≡ [])) ⊎ HasRecords limit file records
 
--- Where an open gate stands at `at` and these bytes behind it: a body of n bytes is in bounds, and the gate behind it is in
--- the file and in its first `limit` bytes.
+-- An open gate at `at`, before these bytes: a body of n bytes is in bounds, and the gate behind it in the file and its first `limit` bytes.
 pub record Fits (limit at : ℕ) (rest : List ℕ) (n : ℕ) : Type 0 where
   pub spelled_so : take 4 rest ≡ length_bytes n
   pub in_bounds : n ≤ longest_body

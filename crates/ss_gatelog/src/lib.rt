@@ -15,7 +15,7 @@
 //! file has the one or the other, and only one of it, is in [`laws`].
 //!
 //! [`Records`] opens a file and lends its bodies one after another, in one pass over the file
-//! (`specs/Records.antt`): over a disk that exposes its files, what it has lent at its end is exactly the list of the
+//! (`specs/Gate.antt`): over a disk that exposes its files, what it has lent at its end is exactly the list of the
 //! file, and a damage that it answers is the one of the file. It and the log judge a gate by one function.
 //!
 //! No call of a log takes memory, and a record is written as it is lent. A reader takes as much as one record and a
@@ -31,8 +31,6 @@ pub mod laws;
 mod log;
 mod records;
 mod skim;
-#[cfg(test)]
-mod tests;
 mod window;
 
 pub use fault::{LogFault, RecordsFault};

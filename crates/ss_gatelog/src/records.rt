@@ -1,7 +1,7 @@
 ghost use Rattle.std.specs.Prelude.{◌≡◌, ◌⊎◌, ◌+◌, ◌^◌, ◌<◌, ◌≤◌, [], ℕ, List, true, false, length, IsTrue, IsOk, IsErr, IfOk};
 ghost use Rattle.ss_disk.specs.Disk.{Same, Changes, HasCause};
 ghost use Rattle.ss_disk.specs.Calls.{Goes};
-ghost use Rattle.ss_gatelog.specs.Faults.{CountsFault};
+ghost use Rattle.ss_gatelog.specs.GateLog.{CountsFault};
 
 use crate::device::synced_size;
 use crate::frame::HEAD;
@@ -31,7 +31,7 @@ pub struct Records {
 
 impl Model for Records {
     ghost use Rattle.std.specs.Prelude.{◌≡◌, ◌⊎◌, ◌<◌, ◌≤◌, ◌^◌, length, take, drop};
-    ghost use Rattle.ss_gatelog.specs.Records.{Reader};
+    ghost use Rattle.ss_gatelog.specs.Gate.{Reader};
 
     ghost Value = { Reader };
 
@@ -42,7 +42,7 @@ impl Model for Records {
 
 impl Records {
     ghost use Rattle.ss_gatelog.specs.GateLog.{IsSure, Opens};
-    ghost use Rattle.ss_gatelog.specs.Records.{Reader, HasLent, Lends, Reaches, ReadsSame};
+    ghost use Rattle.ss_gatelog.specs.Gate.{Reader, HasLent, Lends, ReadsOn, ReadsSame};
 
     /// A reader at the first record of a file, of which no more than `limit` bytes are used. The file is synced first.
     pub fn open<D: Disk>(
@@ -78,7 +78,7 @@ impl Records {
     pub fn next<D: Disk>(&mut self, disk: &mut D) -> Result<Option<u64>, RecordsFault>
         requires { self.old.size ≤ D.known disk.old self.old.file }
         ensures lends { (records : List (List ℕ)) → IsTrue D.told → HasLent D.Disk disk.old self.old records → Lends D.Disk disk.new self.old self.new records result }
-        ensures reaches { Reaches self.old self.new result }
+        ensures reaches { ReadsOn self.old self.new result }
         ensures same { ReadsSame self.old self.new }
         ensures goes { Goes D.Disk Same disk.old disk.new }
         ensures fault { CountsFault RecordsFault.DiskFault (D.faults disk.old) (D.faults disk.new) result }

@@ -3,7 +3,7 @@ ghost use Rattle.std.specs.Prelude.{◌≡◌, ◌⊎◌, ◌+◌, ◌-◌, ◌^
 ghost use Rattle.ss_disk.specs.Disk.{Same};
 ghost use Rattle.ss_disk.specs.Calls.{Goes};
 ghost use Rattle.ss_gatelog.specs.Gate.{IsPiece};
-ghost use Rattle.ss_gatelog.specs.Faults.{CountsFault};
+ghost use Rattle.ss_gatelog.specs.GateLog.{CountsFault};
 
 use crate::RecordsFault;
 use ss_disk::Disk;

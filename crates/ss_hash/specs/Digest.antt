@@ -1,11 +1,8 @@
--- When a block is valid for its CID, after the multiformats specifications of CID and multihash, and why
--- it is not.
+-- When a block is valid for its CID, after the multiformats specifications of CID and multihash, and why it is not.
 use Rattle.std.specs.Prelude.{◌≡◌, ◌≢◌, ℕ, ◌+◌, List, length, take}
 use Rattle.sha2.specs.Sha256.{sha256}
-use Rattle.ss_cid.specs.Cid.{hash_of, digest_of}
-use Rattle.ss_cid.specs.Codec.{hash_named}
-use Rattle.ss_cid.specs.declared.codec.HashCode.{HashCode}
-use Rattle.ss_hash.specs.Blake2b.{blake2b}
+use Rattle.ss_cid.specs.{Cid.{hash_of, digest_of, hash_named}, declared.codec.HashCode.HashCode}
+use Rattle.ss_hash.specs.{Blake2b.blake2b, declared.fault.HashFault.HashFault}
 
 -- this hash function makes this digest of the bytes
 abbrev pub IsDigest : HashCode → List ℕ → List ℕ → Type 0
@@ -48,3 +45,9 @@ pub record PartAt (xs ys : List ℕ) (at : ℕ) : Type 0 where
 -- the digest of the identity CID c and the bytes differ first at this place
 abbrev pub IsNotIdentity : List ℕ → List ℕ → ℕ → Type 0
 IsNotIdentity c bytes at = (hash_named (hash_of c) ≡ HashCode.Identity) × PartAt (digest_of c) bytes at
+
+-- the number of each fault, from 1, in the order of the variants; it is this project's own
+abbrev pub number_of : HashFault → ℕ
+number_of (HashFault.UnknownHash code) = 1
+number_of (HashFault.Mismatch got) = 2
+number_of (HashFault.NotIdentity at) = 3

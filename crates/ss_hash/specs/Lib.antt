@@ -1,7 +1,5 @@
 pub mod Blake2b
 pub mod State
 pub mod Digest
-pub mod Fault
 pub use Rattle.sha2.specs.Sha256
 pub use Rattle.ss_cid.specs.Cid
-pub use Rattle.ss_cid.specs.Codec

@@ -1,8 +1,6 @@
 -- What the state of BLAKE2b has taken in, and what a hasher over it was fed (RFC 7693, section 3.3).
 use Rattle.std.specs.Prelude.{◌≡◌, ℕ, ◌/◌, ◌%◌, List, length, ◌<◌, ◌^◌, [], ◌++◌, take}
-use Rattle.ss_hash.specs.Blake2b.{hash_after, initial}
-use Rattle.ss_hash.specs.declared.state.State.{State}
-use Rattle.ss_hash.specs.declared.hasher.Blake2b.{Blake2b}
+use Rattle.ss_hash.specs.{Blake2b.{hash_after, initial}, declared.state.State.State, declared.hasher.Blake2b.Blake2b}
 
 -- the state s, for digests of n bytes, has taken in the whole blocks m
 pub record IsAbsorbed (s : State) (n : ℕ) (m : List ℕ) : Type 0 where
@@ -10,8 +8,7 @@ pub record IsAbsorbed (s : State) (n : ℕ) (m : List ℕ) : Type 0 where
   pub whole : length m % 128 ≡ 0
   pub hash : s.hash ≡ hash_after (initial n) m (length m / 128)
 
--- the hasher s, for digests of n bytes, has been fed the message m: blocks at its front are in the
--- hash, and at most one block waits, which may be the last
+-- the hasher s, for digests of n bytes, was fed m: blocks at its front are in the hash, and at most one waits, which may be the last
 pub record Holds (s : Blake2b) (n : ℕ) (m : List ℕ) : Type 0 where
   pub front : List ℕ
   pub out_len : s.out_len ≡ n

@@ -1,6 +1,5 @@
 ghost use Rattle.std.specs.Prelude.{◌≡◌, ◌≢◌, ℕ, ◌↔◌, List, IsOk, OnOk, OnErr, IfOk, IfSome};
-ghost use Rattle.ss_cid.specs.Cid.{codec_of};
-ghost use Rattle.ss_cid.specs.Codec.{codec_named};
+ghost use Rattle.ss_cid.specs.Cid.{codec_of, codec_named};
 ghost use Rattle.ss_hash.specs.Blake2b.{blake2b};
 ghost use Rattle.ss_hash.specs.Digest.{IsValid, IsUnknownHash, IsMismatch, IsNotIdentity, PartAt};
 

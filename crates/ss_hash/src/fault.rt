@@ -1,5 +1,5 @@
 ghost use Rattle.std.specs.Prelude.{◌≡◌};
-ghost use Rattle.ss_hash.specs.Fault.{number_of};
+ghost use Rattle.ss_hash.specs.Digest.{number_of};
 
 use std::error::Error;
 use std::fmt;

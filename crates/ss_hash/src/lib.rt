@@ -17,8 +17,6 @@ mod digest;
 mod fault;
 mod hasher;
 mod state;
-#[cfg(test)]
-mod tests;
 
 pub use block::{check, check_for_codec};
 pub use digest::blake2b;

@@ -15,7 +15,7 @@ use Rattle.ss_model.specs.declared.call.Entry.{Entry}
 use Rattle.ss_model.proofs.Need.{record_takes}
 use Rattle.ss_core.specs.Calls.{OfFullLog}
 use Rattle.ss_core.specs.Effect.{bytes_of, record_of}
-use Rattle.ss_history.specs.History.{AreRooms, HasPlace, HavePlace, faults_in, end_after, is_refused}
+use Rattle.ss_history.specs.Story.{AreRooms, HasPlace, HavePlace, faults_in, end_after, is_refused}
 
 -- a record of some blocks takes what they need
 some_bytes : (pairs : List (List ℕ × List ℕ)) → pairs ≢ [] → bytes_of (record_of pairs) ≡ pairs_need pairs

@@ -1,9 +1,7 @@
 -- One call more of a story, and what a story is for those who look at it from outside.
-use Rattle.std.proofs.Common.{◌≡◌, ◌⊎◌, inl, inr, ℕ, suc, min, ◌≤◌, ◌+◌, ◌-◌, ◌^◌, Bool, true, false, List, [], ◌∷◌, ◌++◌, length, Option, None, Some, Result, Ok, Err, refl, sym, ap, ◌∙◌, subst, append_assoc, arith, add-zero, length-append, true≢false}
-use Rattle.std.specs.Io.KnownBytes.{Appends}
-use Rattle.std.proofs.lemmas.List.{append-nil}
+use Rattle.std.proofs.Common.{◌≡◌, ◌⊎◌, inl, inr, ℕ, min, ◌≤◌, ◌+◌, ◌-◌, ◌^◌, Bool, true, false, List, [], ◌∷◌, ◌++◌, Option, None, Some, refl, sym, ap, ◌∙◌, subst, arith, true≢false}
 use Rattle.std.proofs.lemmas.List.Elements.{All-pop}
-use Rattle.std.specs.Prelude.{if◌then◌else◌, OnOk, IsTrue}
+use Rattle.std.specs.Prelude.{if◌then◌else◌, IsTrue}
 use Rattle.ss_disk.specs.declared.disk.Disk.{Ghosts}
 use Rattle.ss_disk.specs.Disk.{Same, Rose}
 use Rattle.ss_disk.specs.Calls.{Goes, Touches}
@@ -26,10 +24,8 @@ use Rattle.ss_core.specs.Calls.{Steps, Makes, OfFullLog}
 use Rattle.ss_core.specs.Effect.{bytes_of, Doubts}
 use Rattle.ss_core.specs.StandsFor.{HasState, StandsFor, HasEitherState}
 use Rattle.ss_core.proofs.Images.{image_state}
-use Rattle.ss_history.specs.History.{AreCounted, HasRoomsBy, IsLimit, AreRooms, AreDoubts, effect_at, faults_in, end_after}
+use Rattle.ss_history.specs.Story.{AreCounted, HasRoomsBy, IsLimit, AreRooms, AreDoubts, effect_at, faults_in, end_after, IsToldStory, Story, IsHistory, HasStore, end_behind}
 use Rattle.ss_history.proofs.Still.{same_touches}
-use Rattle.ss_history.specs.History.{AreCounted, HasRoomsBy, IsLimit, AreRooms, AreDoubts, effect_at, faults_in, end_after}
-use Rattle.ss_history.specs.Story.{IsToldStory, Story, IsHistory, HasStore, end_behind}
 use Rattle.ss_history.proofs.Still.{same_touches}
 
 -- one entry more

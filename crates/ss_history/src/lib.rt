@@ -2,7 +2,7 @@
 //!
 //! A history begins where a store was opened, from a state that the file of the hot log had. Each entry is a step of
 //! `ss_core`; together they are a story (`specs/Story.antt`): legal entries, the faults that the disk counted, the room that
-//! each full log had, and the files that may have changed (`specs/History.antt`). Commands of the program differ in which
+//! each full log had, and the files that may have changed. Commands of the program differ in which
 //! calls they make, and share this.
 #![tactic(auto)]
 

@@ -5,7 +5,7 @@ use Rattle.ss_disk.specs.declared.disk.Disk.{Ghosts}
 use Rattle.ss_disk.specs.Disk.{Same}
 use Rattle.ss_disk.specs.Calls.{Goes}
 use Rattle.ss_gatelog.specs.Log.{longest_body, spelled}
-use Rattle.ss_gatelog.specs.Records.{Reader, HasLent}
+use Rattle.ss_gatelog.specs.Gate.{Reader, HasLent}
 use Rattle.ss_records.specs.declared.record.Config.{Config as Settings}
 use Rattle.ss_records.specs.declared.record.Record.{Record}
 use Rattle.ss_records.specs.declared.record.Record.TheVariants.{Config, Generation, Put, Dropped, Head, Base, Start, Cold, Sealed, Copied, Purged}

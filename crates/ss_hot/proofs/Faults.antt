@@ -1,7 +1,7 @@
 -- What an answer says of its parts.
 use Rattle.std.proofs.Common.{◌≡◌, ⊎_elim, ℕ, subst}
 use Rattle.std.specs.Prelude.{Result, Ok, Err, Option, Some, IfSome}
-use Rattle.ss_gatelog.specs.Faults.{CountsFault}
+use Rattle.ss_gatelog.specs.GateLog.{CountsFault}
 use Rattle.ss_store.specs.declared.fault.StoreFault.{StoreFault}
 use Rattle.ss_store.specs.declared.fault.StoreFault.TheVariants.{DiskFault, Damaged}
 

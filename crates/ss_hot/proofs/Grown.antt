@@ -10,7 +10,7 @@ use Rattle.ss_records.specs.declared.record.Record.{Record}
 use Rattle.ss_records.specs.declared.record.Record.TheVariants.{Config, Generation, Put, Dropped, Head, Base, Start, Cold, Sealed, Copied, Purged}
 use Rattle.ss_records.specs.Record.{frame, spelling, Fits, IsValue}
 use Rattle.ss_store.specs.declared.place.Place.{Place}
-use Rattle.ss_store.specs.Index.{CidMap}
+use Rattle.ss_store.specs.Places.{CidMap}
 use Rattle.ss_store.specs.Append.{bodies}
 use Rattle.ss_hot.specs.Half.{MayStand, IsInPlace, AreInPlace, settings_from, settings_of, head_from, base_from, places_after, places_from, hot_places}
 use Rattle.ss_hot.specs.Store.{Hot, Tells}

@@ -8,8 +8,7 @@ use Rattle.ss_disk.specs.Disk.{Files, Same}
 use Rattle.ss_disk.specs.Calls.{Goes}
 use Rattle.ss_gatelog.specs.Log.{open_gate, longest_body, length_bytes, spelled, AreBodies, HasRecords, HasList, IsDamaged}
 use Rattle.ss_gatelog.specs.GateLog.{Log, IsSure}
-use Rattle.ss_gatelog.specs.Gate.{LeadTo}
-use Rattle.ss_gatelog.specs.Records.{Reader, HasLent, ReadsSame}
+use Rattle.ss_gatelog.specs.Gate.{LeadTo, Reader, HasLent, ReadsSame}
 use Rattle.ss_gatelog.proofs.Bytes.{length-length_bytes, length_bytes-injective}
 use Rattle.ss_gatelog.proofs.Lists.{compared, closed_ends, unfit_ends}
 use Rattle.ss_gatelog.proofs.Logs.{stands_sure}

@@ -9,8 +9,7 @@ use Rattle.ss_records.specs.Record.{spelling}
 use Rattle.ss_records.specs.Places.{places_of}
 use Rattle.ss_gatelog.specs.Log.{spelled}
 use Rattle.ss_store.specs.declared.place.Place.{Place}
-use Rattle.ss_store.specs.Index.{CidMap}
-use Rattle.ss_store.specs.Places.{placed}
+use Rattle.ss_store.specs.Places.{CidMap, placed}
 use Rattle.ss_store.specs.Append.{bodies}
 use Rattle.ss_store.proofs.Pairs.{Each-with, Each-without}
 use Rattle.ss_store.proofs.Placing.{LiesBefore}

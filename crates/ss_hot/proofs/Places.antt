@@ -1,5 +1,5 @@
 -- Where the hot blocks lie: what stands there, and how long it is.
-use Rattle.std.proofs.Common.{◌≡◌, ℕ, ◌+◌, ◌-◌, List, [], ◌∷◌, ◌++◌, map, length, take, drop, refl, sym, ap, ◌∙◌, arith, length-append, append_assoc}
+use Rattle.std.proofs.Common.{◌≡◌, ℕ, ◌+◌, ◌-◌, List, [], ◌∷◌, ◌++◌, map, length, refl, sym, ap, ◌∙◌, arith, length-append, append_assoc}
 use Rattle.std.specs.Prelude.{slice_range, option_map, is_some}
 use Rattle.std.specs.Int.{w16, w32}
 use Rattle.std.specs.List.{flat_map}
@@ -13,8 +13,7 @@ use Rattle.ss_records.specs.Record.{number, block, spelling}
 use Rattle.ss_records.specs.Places.{places}
 use Rattle.ss_gatelog.specs.Log.{open_gate, length_bytes, spelled}
 use Rattle.ss_store.specs.declared.place.Place.{Place}
-use Rattle.ss_store.specs.Index.{CidMap, with_pairs, without_cids}
-use Rattle.ss_store.specs.Places.{placed}
+use Rattle.ss_store.specs.Places.{CidMap, with_pairs, without_cids, placed}
 use Rattle.ss_store.specs.Append.{bodies}
 use Rattle.ss_hot.specs.Half.{hot_after, hot_from, hot_blocks, places_after, places_from, hot_places}
 use Rattle.std.proofs.Common.{Bool, true, false}

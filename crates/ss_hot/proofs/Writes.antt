@@ -13,12 +13,11 @@ use Rattle.ss_records.specs.declared.record.Record.{Record}
 use Rattle.ss_records.specs.declared.record.Record.TheVariants.{Config, Generation, Put}
 use Rattle.ss_records.specs.Record.{spelling, Fits, IsValue, SettingsFit}
 use Rattle.ss_store.specs.declared.place.Place.{Place}
-use Rattle.ss_store.specs.Index.{CidMap, with_pairs, without_cids}
+use Rattle.ss_store.specs.Places.{CidMap, with_pairs, without_cids}
 use Rattle.ss_store.specs.Append.{bodies, Appends}
 use Rattle.ss_store.specs.declared.fault.StoreFault.{StoreFault}
 use Rattle.ss_hot.specs.Half.{hot_places}
-use Rattle.ss_hot.specs.Store.{Hot, IsPlaced, Keeps, IsWithin}
-use Rattle.ss_hot.specs.Writes.{Writes}
+use Rattle.ss_hot.specs.Store.{Hot, IsPlaced, Keeps, IsWithin, Writes}
 use Rattle.ss_hot.proofs.Fresh.{within_limit}
 use Rattle.ss_store.proofs.Pairs.{Each-with, Each-without}
 use Rattle.ss_store.proofs.Placing.{placed_all, placed-before, length-Put, LiesBefore}

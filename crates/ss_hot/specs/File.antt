@@ -1,13 +1,11 @@
 -- What the file of a half stands for: a store with its records, or no store, or the place of its first damage.
 use Rattle.std.specs.Prelude.{◌≡◌, ◌⊎◌, ℕ, ◌<◌, List, [], ◌∷◌, ◌++◌, length, Ok}
-use Rattle.ss_records.specs.declared.record.{Config.Config as Settings, Record.Record}
-use Rattle.ss_records.specs.Fields.{read_record}
+use Rattle.ss_records.specs.{declared.record.{Config.Config as Settings, Record.Record}, Fields.read_record}
 use Rattle.ss_gatelog.specs.Log.{open_gate, length_bytes, spelled, AreBodies, HasList, Fits as FitsGate}
 use Rattle.ss_store.specs.Append.{bodies}
 use Rattle.ss_hot.specs.Half.{MayStand, AreInPlace}
 
--- Settings are committed: the first two gates are open, both records and a gate behind them are in the file, and the second
--- record is these settings.
+-- Settings are committed: the first two gates are open, two records and a gate behind them are in the file, and the second is these.
 pub record HasSettings (file : List ℕ) (settings : Settings) : Type 0 where
   pub first : List ℕ
   pub second : List ℕ
@@ -31,8 +29,7 @@ pub record IsBad (limit n at : ℕ) (rest : List ℕ) : Type 0 where
   pub fits : FitsGate limit at rest (length body)
   pub bad : (r : Record) → read_record body ≡ Ok r → MayStand n r → ⊥
 
--- The first record at fault has its gate at this place: good records lead up to it, an open gate stands there, and behind
--- it no record fits, or one that is not to stand there.
+-- The first record at fault: good records lead up to an open gate here, behind which none fits, or one that is not to stand there.
 pub record IsFaulty (limit : ℕ) (file : List ℕ) (at : ℕ) : Type 0 where
   pub front : List Record
   pub rest : List ℕ

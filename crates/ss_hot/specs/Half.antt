@@ -1,13 +1,8 @@
--- What a half of the hot log stands for: which record may stand where, and which blocks, head and base its records leave.
--- The hot log is this project's own.
+-- What a half of the hot log stands for, a form of this project's own: which record may stand where, and what its records leave.
 use Rattle.std.specs.Prelude.{ℕ, zero, suc, ◌+◌, List, [], ◌∷◌, map, length, Option, None, Some}
 use Rattle.std.specs.FinMap as finite_map
-use Rattle.ss_records.specs.declared.record.{Config.Config as Settings, Record.Record}
-use Rattle.ss_records.specs.Record.{spelling, Fits, IsValue}
-use Rattle.ss_records.specs.Places.{places_of}
-use Rattle.ss_store.specs.declared.place.Place.{Place}
-use Rattle.ss_store.specs.Index.{CidMap, with_pairs, without_cids}
-use Rattle.ss_store.specs.Places.{placed}
+use Rattle.ss_records.specs.{declared.record.{Config.Config as Settings, Record.Record}, Record.{spelling, Fits, IsValue}, Places.places_of}
+use Rattle.ss_store.specs.{declared.place.Place.Place, Places.{CidMap, with_pairs, without_cids, placed}}
 
 -- The record may stand at this place of a half, counted from 0: its generation, then its settings, and then what happened.
 abbrev pub MayStand : ℕ → Record → Type 0

@@ -1,13 +1,4 @@
 pub mod Half
 pub mod File
 pub mod Store
-pub mod Writes
-pub mod Codes
 pub mod Opening
-pub use Rattle.ss_disk.specs.Calls
-pub use Rattle.ss_gatelog.specs.Log
-pub use Rattle.ss_gatelog.specs.GateLog
-pub use Rattle.ss_gatelog.specs.Faults
-pub use Rattle.ss_records.specs.Record
-pub use Rattle.ss_store.specs.Index
-pub use Rattle.ss_store.specs.Append

@@ -1,18 +1,11 @@
 -- How far the opening of a file came, and what its walk over the records has gathered.
 use Rattle.std.specs.Prelude.{◌≡◌, ◌+◌, ◌^◌, ◌<◌, ◌≤◌, List, length, ℕ, [], ◌∷◌, Some, Ok}
 use Rattle.ss_disk.specs.declared.disk.Disk.{Ghosts}
-use Rattle.ss_gatelog.specs.Log.{longest_body}
-use Rattle.ss_gatelog.specs.Records.{HasLent, ReadsSame}
-use Rattle.ss_records.specs.declared.record.Record.{Record}
-use Rattle.ss_store.specs.Append.{bodies}
-use Rattle.ss_hot.specs.declared.store.opening.Opening.{Opening}
+use Rattle.ss_gatelog.specs.{Log.longest_body, Gate.{HasLent, ReadsSame}}
+use Rattle.ss_records.specs.{declared.record.Record.Record, Record.spelling, Fields.read_record}
+use Rattle.ss_store.specs.{Append.bodies, declared.place.Place.Place, Places.CidMap}
+use Rattle.ss_hot.specs.{declared.store.opening.Opening.Opening, declared.store.walk.Walk.Walk, Half.{MayStand, IsInPlace, AreInPlace, settings_from, places_after, hot_places, head_from, head_of, base_from, base_of}}
 use Rattle.std.specs.FinMap as finite_map
-use Rattle.ss_records.specs.Record.{spelling}
-use Rattle.ss_records.specs.Fields.{read_record}
-use Rattle.ss_store.specs.declared.place.Place.{Place}
-use Rattle.ss_store.specs.Index.{CidMap}
-use Rattle.ss_hot.specs.declared.store.walk.Walk.{Walk}
-use Rattle.ss_hot.specs.Half.{MayStand, IsInPlace, AreInPlace, settings_from, places_after, hot_places, head_from, head_of, base_from, base_of}
 
 -- each block lies in this file, and ends at this offset or before
 abbrev pub AreBefore : ℕ → CidMap Place → ℕ → Type 0

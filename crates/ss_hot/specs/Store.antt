@@ -1,13 +1,12 @@
--- What a hot store tells, and what it stands for over a disk.
-use Rattle.std.specs.Prelude.{◌≡◌, ℕ, ◌+◌, ◌-◌, ◌<◌, ◌≤◌, List, All, Option, Some, None}
-use Rattle.std.specs.FinMap as finite_map
-use Rattle.ss_disk.specs.declared.disk.Disk.{Ghosts}
-use Rattle.ss_gatelog.specs.GateLog.{Log, Stands}
-use Rattle.ss_records.specs.declared.record.{Config.Config as Settings, Record.Record}
-use Rattle.ss_store.specs.declared.place.Place.{Place}
-use Rattle.ss_store.specs.Index.{CidMap}
-use Rattle.ss_store.specs.Append.{bodies}
+-- What a hot store tells, what it stands for over a disk, and what a call that writes one record does to both.
+use Rattle.std.specs.{Prelude.{◌≡◌, ℕ, ◌+◌, ◌-◌, ◌<◌, ◌≤◌, List, All, Option, Some, None, ◌⊎◌, false, [], ◌∷◌, ◌++◌, length, Result, Err, IsOk, OnOk, OnErr, Bool, refl}, Coded.{Coded, code_by, coded×, coded_ℕ, coded_bool, coded_list, coded_option}}
+use Rattle.ss_disk.specs.{declared.disk.Disk.Ghosts, Calls.{Touches, Leaves}}
+use Rattle.ss_gatelog.specs.GateLog.{Log, Stands, CountsFault, HasEither}
+use Rattle.ss_records.specs.{declared.record.Config.Config as Settings, declared.record.Record.Record, Record.spelling}
+use Rattle.ss_store.specs.{declared.place.Place.Place, Places.{CidMap, places_code}, Append.bodies, declared.fault.StoreFault.StoreFault}
 use Rattle.ss_hot.specs.Half.{AreInPlace, settings_of, head_of, base_of, hot_places}
+use Rattle.std.specs.FinMap as finite_map
+use Rattle.ss_records.specs.contracts.record.Config as settings
 
 -- a hot store: its settings, its log, where its blocks lie, its head, and its base with the count of ended compactions
 pub record Hot : Type 0 where
@@ -29,8 +28,7 @@ pub record Tells (store : Hot) (records : List Record) : Type 0 where
 abbrev pub IsPlaced : Hot → Type 0
 IsPlaced store = (store.log.limit ≡ store.settings.limit) × (store.log.end < store.settings.limit)
 
--- The store stands for these records over a disk: each image now has them in the store's file. Where its log is unsure, an
--- image has them or the others, by one gate.
+-- The store stands for these records: each image now has them in its file; or, where its log is unsure, them or the others, by one gate.
 pub record Keeps {D : Type 0} (disk : Ghosts D) (now : D) (store : Hot) (records others : List Record) : Type 0 where
   pub tells : Tells store records
   pub placed : IsPlaced store
@@ -60,3 +58,41 @@ AreNotHot store pairs = All (λ p. finite_map.get store.places p.0 ≡ None) pai
 -- the bytes that the next record may take of the log
 abbrev pub room_of : Hot → ℕ
 room_of store = store.log.limit - 1 - store.log.end
+
+-- Where the disk exposes its files, and the log was sure and the store stood for these records: it stands for one more after
+-- `Ok`; after a fault for the same ones, and where its log is in doubt perhaps for that one more; and each image since has the
+-- one list or the other.
+pub record KeepsWritten {D : Type 0} (disk : Ghosts D) (was now : D) (old new : Hot) (records : List Record) (r : Record) (result : Result (Unit {0}) StoreFault) : Type 0 where
+  pub kept : OnOk result (Keeps disk now new (records ++ r ∷ []) [])
+  pub failed : OnErr result (Keeps disk now new records (records ++ r ∷ []))
+  pub stops : Leaves disk old.log.file (HasEither old.settings.limit (bodies records) (bodies (records ++ r ∷ []))) was now
+
+-- Over any disk: written, and the log is sure; or no room or memory, and all stays; or the count of faults rose, and the log may be in doubt.
+pub record Writes {D : Type 0} (disk : Ghosts D) (was now : D) (old new : Hot) (r : Record) (result : Result (Unit {0}) StoreFault) : Type 0 where
+  pub sure : OnOk result (new.log.unsure ≡ false)
+  pub end : OnOk result (new.log.end ≡ old.log.end + 5 + length (spelling r))
+  pub err : OnErr result (SameButDoubt old new)
+  pub settings : new.settings ≡ old.settings
+  pub file : new.log.file ≡ old.log.file
+  pub limit : new.log.limit ≡ old.log.limit
+  pub untouched : (e : StoreFault) → result ≡ Err e → (e ≡ StoreFault.DiskFault) ⊎ ((new ≡ old) × (now ≡ was))
+  pub full : (file need room : ℕ) → result ≡ Err (StoreFault.LogFull file need room) → (file ≡ old.log.file) × (need ≡ 5 + length (spelling r)) × (room ≡ room_of old) × (room < need)
+  pub roomy : IsOk result ⊎ (result ≡ Err StoreFault.DiskFault) → 5 + length (spelling r) ≤ room_of old
+  pub not_damaged : (file at : ℕ) → result ≡ Err (StoreFault.Damaged file at) → ⊥
+  pub counts : CountsFault StoreFault.DiskFault (disk.faults was) (disk.faults now) result
+  pub known : IsKnown disk now new
+  pub touches : Touches disk old.log.file was now
+
+-- how logs and stores are told apart
+abbrev pub log_code : Coded Log
+log_code =
+    code_by (ℕ × (ℕ × (ℕ × Bool))) (coded× coded_ℕ (coded× coded_ℕ (coded× coded_ℕ coded_bool)))
+    (λ l. (l.file, (l.limit, (l.end, l.unsure)))) (λ t. record { file = t.0; limit = t.1.0; end = t.1.1.0; unsure = t.1.1.1 }) (λ _. refl)
+
+abbrev pub hot_code : Coded Hot
+hot_code =
+    code_by (Settings × (Log × (CidMap Place × (Option (ℕ × List (List ℕ)) × (ℕ × ℕ)))))
+    (coded× settings.the_row.coded (coded× log_code (coded× places_code (coded× (coded_option (coded× coded_ℕ (coded_list (coded_list coded_ℕ)))) (coded× coded_ℕ coded_ℕ)))))
+    (λ s. (s.settings, (s.log, (s.places, (s.head, s.base)))))
+    (λ t. record { settings = t.0; log = t.1.0; places = t.1.1.0; head = t.1.1.1.0; base = t.1.1.1.1 })
+    (λ _. refl)

@@ -21,7 +21,5 @@
 
 pub mod laws;
 mod store;
-#[cfg(test)]
-mod tests;
 
 pub use store::{FirstRecords, HotStore};

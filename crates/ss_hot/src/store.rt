@@ -30,8 +30,7 @@ pub struct HotStore {
 }
 
 impl Model for HotStore {
-    ghost use Rattle.ss_hot.specs.Store.{Hot, IsWithin};
-    ghost use Rattle.ss_hot.specs.Codes.{hot_code};
+    ghost use Rattle.ss_hot.specs.Store.{Hot, IsWithin, hot_code};
 
     ghost Value = { Hot };
 

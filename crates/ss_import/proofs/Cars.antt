@@ -1,5 +1,5 @@
 -- How much of a CAR was read, one section further, and to its end.
-use Rattle.std.proofs.Common.{◌≡◌, ℕ, ◌+◌, ◌<◌, List, [], ◌∷◌, ◌++◌, length, Option, None, Some, refl, sym, ap, ◌∙◌, subst, append_assoc, arith, length-append}
+use Rattle.std.proofs.Common.{◌≡◌, ℕ, ◌+◌, List, [], ◌∷◌, ◌++◌, length, Option, None, Some, refl, sym, ap, ◌∙◌, subst, append_assoc, arith, length-append}
 use Rattle.std.specs.Option.{ForSome}
 use Rattle.std.specs.Io.KnownBytes.{Consumes, IsAtEnd}
 use Rattle.std.proofs.lemmas.List.{append-nil}
@@ -8,8 +8,8 @@ use Rattle.ss_car.specs.Car as car
 use Rattle.ss_car.specs.Car.{framed, IsSection, Section, AreSections, IsCar}
 use Rattle.ss_car.specs.declared.fault.CarFault.{CarFault}
 use Rattle.ss_car.specs.declared.fault.CarRefusal.{CarRefusal}
-use Rattle.ss_import.specs.Import.{BeginsWith, AreRead, IsWhole}
-use Rattle.ss_import.specs.Progress.{HasTaken}
+use Rattle.ss_import.specs.Import.{BeginsWith, IsWhole}
+use Rattle.ss_import.specs.Steps.{HasTaken}
 
 -- sections go on where they ended
 joined : (at : ℕ) (bytes : List ℕ) (sections : List Section) (ended : Option CarRefusal) → AreSections at bytes sections ended → ended ≡ None

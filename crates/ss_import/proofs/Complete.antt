@@ -1,6 +1,7 @@
 -- An import that nothing stands in the way of comes to its end, or runs out of memory.
-use Rattle.std.proofs.Common.{◌≡◌, ◌⊎◌, inl, inr, ⊎_elim, ℕ, zero, suc, ◌+◌, ◌-◌, ◌^◌, ◌<◌, ◌≤◌, max, Bool, true, false, ◌||◌, List, [], ◌∷◌, ◌++◌, map, length, Option, Some, None, Result, Ok, Err, refl, sym, ap, ◌∙◌, subst, arith, append_assoc, length-append, true≢false}
-use Rattle.std.specs.Prelude.{IsOk, slice_get, is_some, option_map}
+use Rattle.std.proofs.Common.{◌≡◌, ◌⊎◌, inl, inr, ⊎_elim, ℕ, zero, suc, ◌+◌, ◌-◌, ◌<◌, ◌≤◌, Bool, true, false, ◌||◌, List, [], ◌∷◌, ◌++◌, map, length, Option, Some, None, Result, Ok, Err, refl, sym, ap, ◌∙◌, subst, arith, append_assoc, length-append, true≢false}
+use Rattle.std.specs.Option.{option_or}
+use Rattle.std.specs.Prelude.{IsOk, option_map}
 use Rattle.std.specs.List.{list_any}
 use Rattle.std.specs.FinMap as finite_map
 use Rattle.std.proofs.lemmas.List.{append-nil, map-append}
@@ -8,11 +9,10 @@ use Rattle.ss_car.specs.Car.{Section, IsCar, StartFault}
 use Rattle.ss_car.specs.declared.fault.CarRefusal.{CarRefusal}
 use Rattle.ss_car.proofs.Readings.{start-none}
 use Rattle.ss_car.proofs.Sections.{car-one, car-split}
-use Rattle.ss_chain.specs.Steps.{or_else}
 use Rattle.ss_chain.specs.Tipset.{fault_in, tipset_of}
 use Rattle.ss_model.specs.State.{State, Kept}
 use Rattle.ss_model.specs.Head.{IsHead, head_refusal, answer_of, blocks_of}
-use Rattle.ss_model.specs.Lawful.{Lawful, LawfulHead, After, AreSound, IsSound, IsSmall, IsPairFault, with_blocks, put_bytes, length_of}
+use Rattle.ss_model.specs.Lawful.{LawfulHead, After, AreSound, IsSound, IsSmall, with_blocks, put_bytes, length_of}
 use Rattle.ss_model.specs.History.{Legal, AfterAll}
 use Rattle.ss_model.specs.declared.TheConstants.{PUT_BYTES}
 use Rattle.ss_model.specs.declared.call.Call.TheVariants as call
@@ -23,16 +23,14 @@ use Rattle.ss_model.specs.declared.call.PutReply.TheVariants as put
 use Rattle.ss_model.specs.declared.call.HeadReply.{HeadReply}
 use Rattle.ss_model.specs.declared.call.HeadReply.TheVariants as head
 use Rattle.ss_model.specs.declared.call.Entry.{Entry}
-use Rattle.ss_history.specs.History.{AreRooms, HavePlace, faults_in, is_refused}
+use Rattle.ss_history.specs.Story.{AreRooms, faults_in, is_refused}
 use Rattle.ss_history.proofs.Fulfilled.{fulfilled}
-use Rattle.ss_history.proofs.Stories.{faults_more}
 use Rattle.ss_import.specs.declared.fault.BlockFault.{BlockFault}
 use Rattle.ss_import.specs.declared.fault.BlockFault.TheVariants as block
 use Rattle.ss_import.specs.declared.fault.ImportFault.{ImportFault}
 use Rattle.ss_import.specs.declared.fault.ImportFault.TheVariants as import
 use Rattle.ss_import.specs.declared.importer.Imported.{Imported}
-use Rattle.ss_import.specs.Import.{entry, pair_of, ArePuts, IsLastPut, IsLastHead, AreRead, IsWhole, EndsPuts, EndsReading, EndsHead, IsBlockFault, IsImport}
-use Rattle.ss_import.specs.Valid.{AreCalls, AreSmall, IsImportable}
+use Rattle.ss_import.specs.Import.{entry, pair_of, ArePuts, IsLastPut, IsLastHead, AreRead, IsWhole, EndsPuts, EndsReading, EndsHead, IsBlockFault, IsImport, AreCalls, AreSmall, IsImportable}
 use Rattle.ss_import.proofs.Kept.{HasStored, puts_keep, blocks_small}
 use Rattle.ss_import.proofs.Puts.{puts_read, puts_before}
 use Rattle.ss_import.proofs.Putting.{opened}
@@ -79,7 +77,7 @@ not_big kept p small is big = let short = kept_short (finite_map.get kept p.0) p
 -- ---- heads
 
 no_refusal : (kept : Kept) (cids : List (List ℕ)) (height : ℕ) → IsHead kept cids height → head_refusal kept cids ≡ None
-no_refusal kept cids height is = ap (λ r. or_else r (option_map answer_of (fault_in (tipset_of (blocks_of kept cids))))) is.known ∙ ap (λ r. option_map answer_of (fault_in r)) is.tipset
+no_refusal kept cids height is = ap (λ r. option_or r (option_map answer_of (fault_in (tipset_of (blocks_of kept cids))))) is.known ∙ ap (λ r. option_map answer_of (fault_in r)) is.tipset
 
 -- a refusal of a head that is lawful is one that the blocks decide
 refused_lawfully : (s : State) (cids : List (List ℕ)) (height : ℕ) (reply : HeadReply) → IsHead s.kept cids height → LawfulHead s cids reply → EndsHead reply (import.BadHead reply) → ⊥

@@ -1,5 +1,5 @@
 -- How an import ends: at the header, at a section, or with all its sections read and put.
-use Rattle.std.proofs.Common.{◌≡◌, inl, inr, ⊎_elim, ℕ, Bool, true, false, List, [], ◌∷◌, ◌++◌, Option, None, Some, Result, Ok, Err, refl, sym, ◌∙◌, subst}
+use Rattle.std.proofs.Common.{◌≡◌, inl, inr, ⊎_elim, ℕ, Bool, true, false, List, [], ◌∷◌, ◌++◌, Option, None, Some, Ok, Err, refl, sym, ◌∙◌, subst}
 use Rattle.std.specs.Prelude.{IsTrue}
 use Rattle.std.proofs.lemmas.List.{append-nil}
 use Rattle.ss_disk.specs.declared.disk.Disk.{Ghosts}
@@ -13,7 +13,6 @@ use Rattle.ss_model.specs.declared.call.Call.TheVariants as call
 use Rattle.ss_model.specs.declared.call.Answer.TheVariants as answer
 use Rattle.ss_model.specs.declared.call.HeadReply.{HeadReply}
 use Rattle.ss_model.specs.declared.call.HeadReply.TheVariants as head
-use Rattle.ss_model.specs.declared.call.Entry.{Entry}
 use Rattle.ss_core.specs.declared.split_core.SplitCore.{SplitCore}
 use Rattle.ss_core.specs.Calls.{Steps, Makes}
 use Rattle.ss_core.specs.StandsFor.{StandsFor}
@@ -23,10 +22,8 @@ use Rattle.ss_import.specs.declared.fault.ImportFault.{ImportFault}
 use Rattle.ss_import.specs.declared.fault.ImportFault.TheVariants as import
 use Rattle.ss_import.specs.declared.importer.Imported.{Imported}
 use Rattle.ss_import.specs.declared.importer.Importer.{Importer}
-use Rattle.ss_import.specs.Fault.{fault_at}
-use Rattle.ss_import.specs.Import.{entry, AreRead, IsWhole, EndsReading, EndsHead, IsImport, CountsSource}
-use Rattle.ss_import.specs.Progress.{Putting}
-use Rattle.ss_import.specs.Steps.{WasRead, Ended, FaultCounts}
+use Rattle.ss_import.specs.Import.{fault_at, entry, AreRead, IsWhole, EndsReading, EndsHead, IsImport, CountsSource}
+use Rattle.ss_import.specs.Steps.{Putting, WasRead, Ended, FaultCounts}
 use Rattle.ss_import.proofs.Putting.{opened}
 
 -- all bytes were read

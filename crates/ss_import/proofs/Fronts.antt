@@ -1,16 +1,15 @@
 -- The front of a group, before a block that is not stored.
-use Rattle.std.proofs.Common.{◌≡◌, ◌⊎◌, inl, inr, ⊎_elim, ℕ, zero, suc, ◌+◌, ◌<◌, ◌≤◌, List, [], ◌∷◌, ◌++◌, map, length, take, drop, All, Some, refl, sym, ap, ◌∙◌, subst, arith}
+use Rattle.std.proofs.Common.{◌≡◌, ◌⊎◌, inl, inr, ⊎_elim, ℕ, zero, suc, ◌+◌, ◌<◌, ◌≤◌, List, [], ◌∷◌, ◌++◌, map, length, take, Some, refl, ap, arith}
 use Rattle.std.specs.Prelude.{slice_get, slice_index_or, sum_by}
-use Rattle.std.proofs.lemmas.List.{length-take, take-append-drop}
+use Rattle.std.proofs.lemmas.List.{length-take}
 use Rattle.std.proofs.lemmas.List.Sums.{sum_by-take-le}
-use Rattle.std.proofs.lemmas.List.Elements.{All-take}
 use Rattle.std.proofs.lemmas.Option.{slice_get_within}
 use Rattle.ss_car.specs.Car.{Section}
 use Rattle.ss_model.specs.Lawful.{IsFirstFault, IsSound}
 use Rattle.ss_model.specs.declared.TheConstants.{PUT_BYTES}
 use Rattle.ss_model.specs.declared.call.PutReply.{PutReply}
 use Rattle.ss_model.specs.declared.call.PutReply.TheVariants as put
-use Rattle.ss_store.specs.Index.{CidMap}
+use Rattle.ss_store.specs.Places.{CidMap}
 use Rattle.ss_store.specs.declared.place.Place.{Place}
 use Rattle.ss_core.specs.Puts.{held_bytes, held_put_bytes}
 use Rattle.ss_import.specs.declared.fault.BlockFault.{BlockFault}

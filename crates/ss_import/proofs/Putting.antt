@@ -22,8 +22,7 @@ use Rattle.ss_import.specs.declared.fault.ImportFault.{ImportFault}
 use Rattle.ss_import.specs.declared.fault.ImportFault.TheVariants as import
 use Rattle.ss_import.specs.declared.importer.Importer.{Importer}
 use Rattle.ss_import.specs.Import.{entry, pair_of, GoTogether, is_stored, new_of, new_in, IsSettled, IsBlockFault, ArePuts, EndsPuts}
-use Rattle.ss_import.specs.Progress.{Putting, PutsEnded}
-use Rattle.ss_import.specs.Steps.{Takes}
+use Rattle.ss_import.specs.Steps.{Putting, PutsEnded, Takes}
 use Rattle.ss_import.proofs.Puts.{puts_more, puts_read, new_more}
 use Rattle.ss_import.proofs.Replies.{IsEnd, no_memory, disk_fault, log_full, table_full}
 

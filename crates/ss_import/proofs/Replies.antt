@@ -1,8 +1,7 @@
 -- What the answer to a put of a group means for the import.
-use Rattle.std.proofs.Common.{◌≡◌, ◌⊎◌, inl, inr, ⊎_elim, ℕ, ◌+◌, ◌<◌, ◌≤◌, Bool, true, false, List, [], ◌∷◌, ◌++◌, map, length, All, Some, Result, Ok, Err, refl, sym, ap, ◌∙◌, subst, arith, true≢false, get_or}
+use Rattle.std.proofs.Common.{◌≡◌, ◌⊎◌, inl, inr, ⊎_elim, ℕ, ◌+◌, ◌<◌, ◌≤◌, true, false, List, [], ◌∷◌, ◌++◌, length, All, Some, Ok, Err, refl, sym, ap, ◌∙◌, subst, arith, true≢false, get_or}
 use Rattle.std.specs.Prelude.{slice_get}
 use Rattle.std.specs.FinSet as finite_set
-use Rattle.std.proofs.lemmas.List.Elements.{All-get_or}
 use Rattle.std.proofs.lemmas.Option.{slice_get_within, get_or_from_slice_get}
 use Rattle.ss_disk.specs.declared.disk.Disk.{Ghosts}
 use Rattle.ss_car.specs.Car.{Section}
@@ -19,7 +18,6 @@ use Rattle.ss_import.specs.declared.fault.BlockFault.{BlockFault}
 use Rattle.ss_import.specs.declared.fault.BlockFault.TheVariants as block
 use Rattle.ss_import.specs.declared.fault.ImportFault.{ImportFault}
 use Rattle.ss_import.specs.declared.fault.ImportFault.TheVariants as import
-use Rattle.ss_import.specs.declared.importer.PutFault.{PutFault}
 use Rattle.ss_import.specs.declared.importer.PutFault.TheVariants as group
 use Rattle.ss_import.specs.Import.{entry, pair_of, GoTogether, is_stored, IsSettled, IsBlockFault}
 use Rattle.ss_import.specs.Steps.{outcome_of, IsGroupReply, IsDueBlock, FaultCounts}

@@ -1,5 +1,5 @@
 -- No block of a state that a file has is longer than a block may be.
-use Rattle.std.proofs.Common.{◌≡◌, ◌⊎◌, ⊎_elim, ℕ, suc, Bool, true, false, cond, List, [], ◌∷◌, length, All, Option, Some, None, refl, sym, ap, ◌∙◌, subst, arith}
+use Rattle.std.proofs.Common.{◌≡◌, ℕ, suc, Bool, true, false, cond, List, [], ◌∷◌, All, Option, Some, None, sym, ◌∙◌, subst, arith}
 use Rattle.std.specs.Ordering.{nat_cmp, eq_by_cmp}
 use Rattle.std.specs.Cmp.Lexicographic.{slice_cmp, nat_list_cmp_total}
 use Rattle.std.specs.FinMap as finite_map
@@ -7,12 +7,11 @@ use Rattle.std.specs.FinMap.{get-empty, get-remove}
 use Rattle.ss_records.specs.declared.record.Record.{Record}
 use Rattle.ss_records.specs.declared.record.Record.TheVariants as record_kind
 use Rattle.ss_records.specs.Record.{Fits, BlockFits}
-use Rattle.ss_store.specs.Index.{with_pairs, without_cids}
+use Rattle.ss_store.specs.Places.{with_pairs, without_cids}
 use Rattle.ss_hot.specs.Half.{AreInPlace, hot_after, hot_from}
 use Rattle.ss_model.specs.State.{State, Kept}
-use Rattle.ss_model.specs.Lawful.{IsSmall}
 use Rattle.ss_core.specs.StandsFor.{HasState}
-use Rattle.ss_import.specs.Valid.{AreSmall}
+use Rattle.ss_import.specs.Import.{AreSmall}
 use Rattle.ss_import.proofs.Kept.{insert_small}
 
 pairs_small : (kept : Kept) (pairs : List (List ℕ × List ℕ)) → AreSmall kept → All BlockFits pairs → AreSmall (with_pairs kept pairs)

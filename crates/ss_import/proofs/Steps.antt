@@ -1,13 +1,11 @@
 -- What a step of an import leaves, by how it ends.
-use Rattle.std.proofs.Common.{◌≡◌, inl, inr, ℕ, zero, suc, ◌+◌, ◌/◌, ◌%◌, ◌^◌, ◌≤◌, Bool, true, false, nat_lt, MutBor, List, [], ◌∷◌, ◌++◌, length, Option, None, Some, Result, Ok, Err, refl, sym, ap, ◌∙◌, subst, arith, length-append}
+use Rattle.std.proofs.Common.{◌≡◌, inl, inr, ℕ, zero, suc, ◌+◌, ◌/◌, ◌%◌, ◌^◌, ◌≤◌, Bool, true, false, nat_lt, MutBor, List, [], ◌∷◌, ◌++◌, length, Option, Some, Err, refl, sym, ap, ◌∙◌, subst, arith, length-append}
 use Rattle.std.specs.Prelude.{if◌then◌else◌}
 use Rattle.std.specs.Option.{ForSome}
 use Rattle.std.specs.Io.KnownBytes.{IsAtEnd}
 use Rattle.std.proofs.lemmas.List.{append-nil}
-use Rattle.ss_car.specs.Bodies.{TakesStart, TakesSection, NextFault}
+use Rattle.ss_car.specs.Bodies.{TakesStart, TakesSection, NextFault, roots_of, taken_of, input_left, Blames, FaultHasCause}
 use Rattle.ss_car.specs.Car.{framed, Section, IsCar}
-use Rattle.ss_car.specs.Reader.{roots_of, taken_of, input_left}
-use Rattle.ss_car.specs.Bodies.{Blames, FaultHasCause}
 use Rattle.ss_car.specs.declared.fault.CarFault.{CarFault}
 use Rattle.ss_car.specs.declared.fault.CarFault.TheVariants as car
 use Rattle.ss_car.specs.declared.fault.CarRefusal.{CarRefusal}
@@ -19,10 +17,8 @@ use Rattle.ss_history.specs.Story.{Story}
 use Rattle.ss_import.specs.declared.fault.ImportFault.{ImportFault}
 use Rattle.ss_import.specs.declared.fault.ImportFault.TheVariants as import
 use Rattle.ss_import.specs.declared.importer.Importer.{Importer}
-use Rattle.ss_import.specs.Fault.{fault_of, fault_at}
-use Rattle.ss_import.specs.Import.{AreRead, IsWhole, EndsReading}
-use Rattle.ss_import.specs.Progress.{Holds, HasTaken, Putting, PutsEnded, PutsAll}
-use Rattle.ss_import.specs.Steps.{Takes, Refused, Refuses, Reading, WasRead, Ended}
+use Rattle.ss_import.specs.Import.{fault_at, AreRead, IsWhole, EndsReading}
+use Rattle.ss_import.specs.Steps.{Holds, HasTaken, Putting, PutsEnded, Takes, Refused, Refuses, Reading, WasRead, Ended}
 use Rattle.ss_import.proofs.Cars.{taken_start, taken_more, begins, whole, refused}
 use Rattle.ss_import.proofs.Putting.{opened}
 

@@ -3,8 +3,7 @@ use Rattle.std.proofs.Common.{◌≡◌, ℕ, List, Result, Ok, Err, sym, true�
 use Rattle.std.specs.Prelude.{IsOk}
 use Rattle.ss_cbor.specs.Fault.{scanned}
 use Rattle.ss_cbor.specs.declared.fault.CborKind.{CborKind}
-use Rattle.ss_cid.specs.Codec.{hash_named}
-use Rattle.ss_cid.specs.Cid.{hash_of, digest_of}
+use Rattle.ss_cid.specs.Cid.{hash_named, hash_of, digest_of}
 use Rattle.ss_cid.specs.declared.codec.HashCode.{HashCode}
 use Rattle.ss_cid.specs.declared.codec.HashCode.TheVariants as hash
 use Rattle.ss_hash.specs.Digest.{IsDigest, MakesNoSuch}

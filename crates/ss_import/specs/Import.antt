@@ -1,29 +1,38 @@
--- The calls of an import, as a history, and why it ends.
+-- The calls of an import, as a history, why it ends, and what lets it come to its end.
 --
 -- A view is opened. Then sections are put in it, group by group, each as soon as it is known that no more go with it. At last, where
 -- the CAR has no fault and all its sections were put, its roots may be set as head.
-use Rattle.std.specs.Prelude.{◌≡◌, ◌⊎◌, ℕ, ◌+◌, ◌-◌, ◌^◌, ◌<◌, ◌≤◌, min, Bool, true, false, List, [], ◌∷◌, ◌++◌, map, length, sum_by, Option, None, Some, if◌then◌else◌, Result, Ok, Err}
-use Rattle.std.specs.Option.{ForSome}
-use Rattle.ss_car.specs.Car.{Section, IsCar, StartFault}
-use Rattle.ss_car.specs.declared.fault.CarFault.{CarFault}
+use Rattle.std.specs.{Prelude.{◌≡◌, ◌⊎◌, ℕ, ◌+◌, ◌-◌, ◌^◌, ◌<◌, ◌≤◌, min, Bool, true, false, List, [], ◌∷◌, ◌++◌, map, length, sum_by, Option, None, Some, if◌then◌else◌, Result, Ok, Err}, Option.ForSome}
+use Rattle.ss_car.specs.{Car.{Section, IsCar, StartFault}, declared.fault.CarFault.CarFault, declared.fault.CarRefusal.CarRefusal}
 use Rattle.ss_cbor.specs.declared.fault.CborKind.{CborKind}
 use Rattle.ss_disk.specs.Disk.{Rose}
-use Rattle.ss_model.specs.Lawful.{IsPairFault}
-use Rattle.ss_model.specs.declared.call.Call.{Call}
+use Rattle.ss_model.specs.{Lawful.{IsPairFault, AreSound, IsSmall, with_blocks}, declared.call.Call.Call, declared.call.Answer.Answer, declared.call.ViewReply.ViewReply, declared.call.PutReply.PutReply, declared.call.HeadReply.HeadReply, declared.call.Entry.Entry, Head.IsHead, History.Legal, State.{State, Kept}}
+use Rattle.ss_import.specs.{declared.fault.BlockFault.BlockFault, declared.fault.ImportFault.ImportFault, declared.importer.Imported.Imported}
+use Rattle.ss_history.specs.Story.{HavePlace}
 use Rattle.ss_model.specs.declared.call.Call.TheVariants as call
-use Rattle.ss_model.specs.declared.call.Answer.{Answer}
 use Rattle.ss_model.specs.declared.call.Answer.TheVariants as answer
-use Rattle.ss_model.specs.declared.call.ViewReply.{ViewReply}
-use Rattle.ss_model.specs.declared.call.PutReply.{PutReply}
 use Rattle.ss_model.specs.declared.call.PutReply.TheVariants as put
-use Rattle.ss_model.specs.declared.call.HeadReply.{HeadReply}
 use Rattle.ss_model.specs.declared.call.HeadReply.TheVariants as head
-use Rattle.ss_model.specs.declared.call.Entry.{Entry}
-use Rattle.ss_import.specs.declared.fault.BlockFault.{BlockFault}
 use Rattle.ss_import.specs.declared.fault.BlockFault.TheVariants as block
-use Rattle.ss_import.specs.declared.fault.ImportFault.{ImportFault}
 use Rattle.ss_import.specs.declared.fault.ImportFault.TheVariants as import
-use Rattle.ss_import.specs.declared.importer.Imported.{Imported}
+use Rattle.ss_car.specs.declared.fault.CarFault.TheVariants as car
+use Rattle.std.specs.FinMap as finite_map
+
+-- the number of a block's fault, which the program prints; it is this project's own
+abbrev pub block_number : BlockFault → ℕ
+block_number block.TooLarge = 6
+block_number block.UnknownHash = 10
+block_number block.Mismatch = 11
+block_number block.Malformed = 12
+
+-- the fault that a refusal of the CAR is; a source that failed and want of memory are not the CAR's
+abbrev pub fault_at : CarFault → ℕ → ImportFault
+fault_at car.ReadFault offset = import.ReadFault
+fault_at car.NoMemory offset = import.NoMemory
+fault_at fault offset = import.BadCar fault offset
+
+abbrev pub fault_of : CarRefusal → ImportFault
+fault_of refusal = fault_at refusal.fault refusal.offset
 
 -- ---- the calls
 
@@ -59,16 +68,11 @@ IsSettled (answer.Put (put.Mismatch i)) = Unit {0}
 IsSettled (answer.Put (put.Malformed i kind place)) = Unit {0}
 IsSettled _ = ⊥
 
--- the entry puts some sections, in this view
-abbrev pub IsPutOf : ℕ → List Section → Entry → Type 0
-IsPutOf v group e = GoTogether (map pair_of group) × (e ≡ entry (call.Put v (map pair_of group)) e.answer)
-
--- The entries put sections in this view: each some that come next, and those that were stored are passed. What is left of the
--- sections was not stored.
+-- The entries put sections in this view, each some that come next. Those that were stored are passed; what is left was not stored.
 abbrev pub ArePuts : ℕ → List Section → List Entry → List Section → Type 0
 ArePuts v sections [] left = left ≡ sections
 ArePuts v sections (e ∷ h) left =
-    (group : List Section) × (more : List Section) × (sections ≡ group ++ more) × IsPutOf v group e × IsSettled e.answer × ArePuts v (if is_stored e.answer then more else sections) h left
+    (group : List Section) × (more : List Section) × (sections ≡ group ++ more) × (GoTogether (map pair_of group) × (e ≡ entry (call.Put v (map pair_of group)) e.answer)) × IsSettled e.answer × ArePuts v (if is_stored e.answer then more else sections) h left
 
 -- the last entry puts some of these sections, and is answered so
 abbrev pub IsLastPut : ℕ → List Section → List Entry → PutReply → Type 0
@@ -149,8 +153,7 @@ HasReason wants input roots sections left v puts last (Err fault) =
     ⊎ (((last ≡ []) × EndsReading input roots sections left fault)
     ⊎ ((wants ≡ true) × (left ≡ []) × IsWhole input roots sections × (reply : HeadReply) × IsLastHead roots last reply × EndsHead reply fault))
 
--- What an import of this input did. Its entries, of which this holds: a view was opened, and then sections were put and perhaps the
--- roots were set as head.
+-- What an import of this input did. `Did` holds of its entries: a view was opened, sections were put, and perhaps the roots set as head.
 pub record IsImport (Did : List Entry → Type 0) (wants : Bool) (input : Option (List ℕ)) (result : Result Imported ImportFault) : Type 0 where
   pub view : ℕ
   pub roots : List (List ℕ)
@@ -167,3 +170,26 @@ pub record IsImport (Did : List Entry → Type 0) (wants : Bool) (input : Option
 abbrev pub CountsSource : ℕ → ℕ → Result Imported ImportFault → Type 0
 CountsSource before now (Err import.ReadFault) = Rose before now
 CountsSource before now _ = now ≡ before
+
+-- the calls of an import of these sections, up to some of them
+pub record AreCalls (roots : List (List ℕ)) (sections : List Section) (h : List Entry) : Type 0 where
+  pub view : ℕ
+  pub puts : List Entry
+  pub left : List Section
+  pub last : List Entry
+  pub are : h ≡ entry call.OpenView (answer.View (ViewReply.Opened view)) ∷ (puts ++ last)
+  pub are_puts : ArePuts view sections puts left
+  pub ends : (last ≡ []) ⊎ (((reply : PutReply) × IsLastPut view left last reply) ⊎ ((reply : HeadReply) × IsLastHead roots last reply))
+
+-- no kept block is longer than a block may be
+abbrev pub AreSmall : Kept → Type 0
+AreSmall kept = (c block : List ℕ) → finite_map.get kept c ≡ Some block → IsSmall (c, block)
+
+-- Nothing of a CAR and of a state stands in the way of an import: the CAR is whole and no longer than it may be, its blocks may be
+-- stored, its roots are a tipset then, and each legal history of its calls has a row for each block and room for each record.
+pub record IsImportable (wants : Bool) (bytes : List ℕ) (roots : List (List ℕ)) (sections : List Section) (s : State) (end : ℕ) : Type 0 where
+  pub car : IsCar bytes roots sections None
+  pub short : length bytes ≤ 2 ^ 40
+  pub sound : AreSound (map pair_of sections)
+  pub head : wants ≡ true → (height : ℕ) × IsHead (with_blocks s.kept (map pair_of sections)) roots height
+  pub place : (h : List Entry) → AreCalls roots sections h → Legal s h → HavePlace s end h

@@ -1,37 +1,65 @@
--- What a step of an import comes to.
-use Rattle.std.specs.Prelude.{◌≡◌, ◌⊎◌, ℕ, ◌+◌, ◌^◌, ◌<◌, ◌≤◌, Bool, true, false, List, [], ◌∷◌, ◌++◌, length, slice_get, Option, Some, Result, Ok, Err, MatchResult}
-use Rattle.ss_car.specs.Car.{Section}
-use Rattle.ss_car.specs.Reader.{roots_of, taken_of, input_left}
-use Rattle.ss_car.specs.declared.reader.CarReader.{CarReader}
-use Rattle.ss_car.specs.declared.fault.CarRefusal.{CarRefusal}
+-- How far an import has come, and what a step of it comes to.
+use Rattle.std.specs.{Prelude.{◌≡◌, ◌⊎◌, ℕ, ◌+◌, ◌^◌, ◌<◌, Bool, true, false, List, [], ◌∷◌, ◌++◌, length, Option, Result, Ok, Err, MatchResult, ◌-◌, ◌≤◌, min, map, sum_by, All, None}, Io.KnownBytes.Consumes}
+use Rattle.ss_car.specs.{Car.{Section, IsCar}, Bodies.{roots_of, taken_of, input_left}, declared.reader.CarReader.CarReader, declared.fault.CarRefusal.CarRefusal}
 use Rattle.ss_cbor.specs.declared.fault.CborKind.{CborKind}
-use Rattle.ss_disk.specs.declared.disk.Disk.{Ghosts}
-use Rattle.ss_disk.specs.Disk.{Rose}
+use Rattle.ss_disk.specs.{declared.disk.Disk.Ghosts, Disk.Rose}
 use Rattle.ss_io.specs.declared.source.Source.{Ghosts as Source}
-use Rattle.ss_model.specs.Lawful.{IsFirstFault}
-use Rattle.ss_model.specs.declared.TheConstants.{PUT_BYTES}
+use Rattle.ss_model.specs.{Lawful.{IsFirstFault, IsSmall}, declared.TheConstants.PUT_BYTES, declared.call.PutReply.PutReply, declared.call.HeadReply.HeadReply, declared.call.ViewReply.ViewReply, declared.call.Entry.Entry}
+use Rattle.ss_core.specs.Puts.{held_put_bytes}
+use Rattle.ss_store.specs.{Places.CidMap, declared.place.Place.Place}
+use Rattle.ss_history.specs.Story.{Story}
+use Rattle.ss_import.specs.{declared.fault.BlockFault.BlockFault, declared.fault.ImportFault.ImportFault, declared.importer.PutFault.PutFault, declared.importer.Importer.Importer, Import.{fault_of, entry, ArePuts, EndsPuts, EndsReading, IsWhole, AreRead, EndsHead, pair_of, pair_length, GoTogether, new_in}, declared.group.Group.Group}
 use Rattle.ss_model.specs.declared.call.Answer.TheVariants as answer
-use Rattle.ss_model.specs.declared.call.PutReply.{PutReply}
 use Rattle.ss_model.specs.declared.call.PutReply.TheVariants as put
-use Rattle.ss_model.specs.declared.call.HeadReply.{HeadReply}
 use Rattle.ss_model.specs.declared.call.HeadReply.TheVariants as head
 use Rattle.ss_model.specs.declared.call.Call.TheVariants as call
-use Rattle.ss_model.specs.declared.call.ViewReply.{ViewReply}
-use Rattle.ss_model.specs.declared.call.Entry.{Entry}
-use Rattle.ss_core.specs.Puts.{held_put_bytes}
-use Rattle.ss_store.specs.Index.{CidMap}
-use Rattle.ss_store.specs.declared.place.Place.{Place}
-use Rattle.ss_history.specs.Story.{Story}
-use Rattle.ss_import.specs.declared.fault.BlockFault.{BlockFault}
 use Rattle.ss_import.specs.declared.fault.BlockFault.TheVariants as block
-use Rattle.ss_import.specs.declared.fault.ImportFault.{ImportFault}
 use Rattle.ss_import.specs.declared.fault.ImportFault.TheVariants as import
-use Rattle.ss_import.specs.declared.importer.PutFault.{PutFault}
 use Rattle.ss_import.specs.declared.importer.PutFault.TheVariants as group
-use Rattle.ss_import.specs.declared.importer.Importer.{Importer}
-use Rattle.ss_import.specs.Fault.{fault_of}
-use Rattle.ss_import.specs.Import.{entry, ArePuts, EndsPuts, EndsReading, IsWhole, AreRead, EndsHead}
-use Rattle.ss_import.specs.Progress.{Holds, HasTaken, Putting, PutsEnded}
+use Rattle.std.specs.FinSet as finite_set
+
+-- the header and these sections were taken from an input, up to this offset
+pub record HasTaken (old new : Option (List ℕ)) (roots : List (List ℕ)) (sections : List Section) (taken : ℕ) : Type 0 where
+  pub front : List ℕ
+  pub is_car : IsCar front roots sections None
+  pub consumed : Consumes old new front
+  pub count : taken ≡ length front
+
+-- the group holds these sections, with the bytes that they have
+pub record Holds (group : Group) (sections : List Section) : Type 0 where
+  pub parcel : group.parcel ≡ map pair_of sections
+  pub offsets : group.offsets.items ≡ map (λ (s : Section). s.offset) sections
+
+-- what lets the group be put over any disk: its view is open, its blocks go together, none too large, and not too big unless it is one block
+pub record IsReady {D : Type 0} {disk : Ghosts D} (imp : Importer D disk) : Type 0 where
+  pub view : finite_set.contains imp.core.views imp.view ≡ true
+  pub offsets : length imp.group.offsets.items ≡ length imp.group.parcel
+  pub together : GoTogether imp.group.parcel
+  pub bytes : imp.group.bytes ≡ sum_by pair_length imp.group.parcel
+  pub small : All IsSmall imp.group.parcel
+  pub put_bytes : imp.group.put_bytes ≡ held_put_bytes imp.core.hot.places imp.group.parcel
+  pub fits : (length imp.group.parcel ≤ 1) ⊎ (held_put_bytes imp.core.hot.places imp.group.parcel ≤ PUT_BYTES)
+
+-- of the sections that were read these are left, and the others stored
+pub record Putting {D : Type 0} {disk : Ghosts D} (was : D) (imp : Importer D disk) (sections left : List Section) : Type 0 where
+  pub puts : List Entry
+  pub story : Story was imp.core (entry call.OpenView (answer.View (ViewReply.Opened imp.view)) ∷ puts)
+  pub are_puts : ArePuts imp.view sections puts left
+  pub new_is : imp.new_blocks ≡ min (new_in puts) (2 ^ 64 - 1)
+
+-- a put ended the import
+pub record PutsEnded {D : Type 0} {disk : Ghosts D} (was : D) (imp : Importer D disk) (sections : List Section) (fault : ImportFault) : Type 0 where
+  pub left : List Section
+  pub puts : List Entry
+  pub last : List Entry
+  pub story : Story was imp.core (entry call.OpenView (answer.View (ViewReply.Opened imp.view)) ∷ (puts ++ last))
+  pub are_puts : ArePuts imp.view sections puts left
+  pub reason : EndsPuts imp.view puts left last fault
+
+-- all sections were put, or a put ended the import
+abbrev pub PutsAll : {D : Type 0} {disk : Ghosts D} → D → Importer D disk → List Section → Result (Unit {0}) ImportFault → Type 0
+PutsAll was imp sections (Ok _) = Putting was imp sections []
+PutsAll was imp sections (Err fault) = PutsEnded was imp sections fault
 
 -- how many new blocks a put stored, or why it stored none; answers that no put of a group gets mean nothing
 abbrev pub outcome_of : PutReply → Result ℕ PutFault
@@ -52,8 +80,7 @@ IsGroupReply (put.TooMany n) = ⊥
 IsGroupReply (put.TooLarge i) = ⊥
 IsGroupReply _ = Unit {0}
 
--- Over any disk, why the block at this place is not stored: it is the first pair that may not be; or the put is too big, which blames
--- its first.
+-- Why the block at this place is not stored, over any disk: it is the first that may not be; or the put is too big, which blames its first.
 abbrev pub IsDueBlock : CidMap Place → List (List ℕ × List ℕ) → ℕ → BlockFault → Type 0
 IsDueBlock places pairs i block.TooLarge = (i ≡ 0) × (PUT_BYTES < held_put_bytes places pairs)
 IsDueBlock places pairs i block.UnknownHash = IsFirstFault pairs (put.UnknownHash i)

@@ -1,6 +1,6 @@
 //! Why an import ends before its CAR does.
 ghost use Rattle.std.specs.Prelude.{◌≡◌};
-ghost use Rattle.ss_import.specs.Fault.{block_number, fault_of};
+ghost use Rattle.ss_import.specs.Import.{block_number, fault_of};
 
 use ss_car::{CarFault, CarRefusal};
 use ss_cid::NoMemory;

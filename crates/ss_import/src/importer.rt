@@ -2,13 +2,11 @@
 ghost use Rattle.std.specs.Prelude.{◌≡◌, ◌+◌, ◌-◌, ◌<◌, ◌≤◌, ◌^◌, ℕ, List, [], Option, None, Ok, true, OnOk, length, max, min, slice_get};
 ghost use Rattle.std.specs.FinSet as finite_set;
 ghost use Rattle.ss_car.specs.Car.{Section};
-ghost use Rattle.ss_car.specs.Reader.{roots_of, taken_of, refusal_of, input_faults, input_place};
-ghost use Rattle.ss_car.specs.Bodies.{FaultHasCause};
+ghost use Rattle.ss_car.specs.Bodies.{roots_of, taken_of, refusal_of, input_faults, input_place, FaultHasCause};
 ghost use Rattle.ss_core.specs.Puts.{held_bytes};
 ghost use Rattle.ss_history.specs.Story.{Story};
 ghost use Rattle.ss_import.specs.Import.{IsImport, CountsSource, IsBlockFault};
-ghost use Rattle.ss_import.specs.Progress.{IsReady, Holds, Putting, PutsAll, PutsEnded};
-ghost use Rattle.ss_import.specs.Steps.{outcome_of, IsGroupReply, IsDueBlock, Takes, Refuses, Reading, WasRead, Stepped, FaultCounts, CountsRead, IsHeadOutcome};
+ghost use Rattle.ss_import.specs.Steps.{IsReady, Holds, Putting, PutsAll, PutsEnded, outcome_of, IsGroupReply, IsDueBlock, Takes, Refuses, Reading, WasRead, Stepped, FaultCounts, CountsRead, IsHeadOutcome};
 ghost use Rattle.ss_import.specs.declared.fault.BlockFault.{BlockFault};
 ghost use Rattle.ss_import.specs.declared.importer.PutFault.TheVariants as group;
 ghost use Rattle.ss_model.specs.Lawful.{IsSmall};
@@ -40,8 +38,8 @@ pub struct Imported {
 /// Puts the sections of a CAR in a new view, and sets its roots as head if `head` says so.
 ///
 /// What comes first in the order of the CAR ends the import: `NoMemory`, `ReadFault`, `DiskFault`, `BadCar`, `BadBlock`,
-/// `LogFull`, `TableFull`, `TooLong`; behind the last section `NoMemory`, `BadHead`, `LogFull`, `DiskFault`. The sections before
-/// it are kept, but for `NoMemory` and `ReadFault`, which leave out those that were read and not put yet.
+/// `LogFull`, `TableFull`, `TooLong`; behind the last section `NoMemory`, `BadHead`, `LogFull`, `DiskFault`. All
+/// sections before `BadCar`, `BadBlock`, `TooLong` and `BadHead` are kept; before the others those of the groups that were put.
 pub fn import<S: Source, D: Disk>(
     alloc: Global,
     core: SplitCore<D>,

@@ -4,7 +4,7 @@ use Rattle.std.specs.Prelude.{Option, None, Some, Result, Ok, Err, is_err, true}
 use Rattle.std.proofs.lemmas.List.{append-nil, take-append-drop}
 use Rattle.std.proofs.Math.Seq.{take-length}
 use Rattle.std.specs.Io.KnownBytes.{Keeps, Appends, Consumes, ReadConsumes}
-use Rattle.ss_io.specs.Written.{AppendsFront, PutAppends}
+use Rattle.ss_io.specs.Streams.{AppendsFront, PutAppends}
 
 pub Keeps-same : (old : Option (List ℕ)) → Keeps old old
 Keeps-same None = tt

@@ -1,6 +1,5 @@
 -- A source behind a buffer: what is left are the bytes in the buffer, and then those of the source.
-use Rattle.std.specs.Prelude.{ℕ, List, ◌++◌, take, drop, Option, None, Some, Vec}
-use Rattle.std.specs.declared.alloc.Global.{Global}
+use Rattle.std.specs.{Prelude.{ℕ, List, ◌++◌, take, drop, Option, None, Some}}
 use Rattle.ss_io.specs.declared.buffered.Buffered.{Buffered}
 
 -- the bytes, and then those that are left behind them

@@ -1,5 +1,5 @@
 ghost use Rattle.std.specs.Prelude.{◌≡◌, ◌+◌, ◌-◌, ◌^◌, ◌≤◌, min};
-ghost use Rattle.ss_io.specs.Causes.{Rose};
+ghost use Rattle.ss_io.specs.Streams.{Rose};
 
 use std::error::Error;
 use std::fmt;

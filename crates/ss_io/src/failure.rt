@@ -1,5 +1,5 @@
 ghost use Rattle.std.specs.Prelude.{◌≡◌, ◌-◌, ◌<◌, ◌≤◌, ◌↔◌, IsSome};
-ghost use Rattle.ss_io.specs.Causes.{Rose};
+ghost use Rattle.ss_io.specs.Streams.{Rose};
 
 use crate::Failed;
 use crate::failed::count_fault;

@@ -1,8 +1,7 @@
 ghost use Rattle.std.specs.Prelude.{◌≡◌, ◌↔◌, ◌∷◌, [], ◌++◌, Some, IsErr, OnOk, OnErr};
 ghost use Rattle.std.specs.Io.KnownBytes.{Keeps};
-ghost use Rattle.ss_io.specs.Causes.{HasCause};
+ghost use Rattle.ss_io.specs.Streams.{HasCause, PutAppends};
 ghost use Rattle.ss_io.specs.Memory.{fresh, IsListed, succeeded, failed};
-ghost use Rattle.ss_io.specs.Written.{PutAppends};
 
 use crate::failed::count_fault;
 use crate::{Failed, Sink};

@@ -1,7 +1,7 @@
 ghost use Rattle.std.specs.Prelude.{◌≡◌, ◌↔◌, ◌∷◌, [], ◌++◌, ◌<◌, min, length, take, drop, Some, IsErr, IfOk, OnOk, OnErr};
 ghost use Rattle.std.specs.Io.{ReadsAtMost};
 ghost use Rattle.std.specs.Io.KnownBytes.{ReadConsumes};
-ghost use Rattle.ss_io.specs.Causes.{HasCause};
+ghost use Rattle.ss_io.specs.Streams.{HasCause};
 ghost use Rattle.ss_io.specs.Memory.{fresh, IsListed, succeeded, failed};
 
 use crate::failed::count_fault;

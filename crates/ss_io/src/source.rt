@@ -1,7 +1,7 @@
 ghost use Rattle.std.specs.Prelude.{◌≡◌, ℕ, List, [], Option};
 ghost use Rattle.std.specs.Io.{ReadsAtMost};
 ghost use Rattle.std.specs.Io.KnownBytes.{ReadConsumes};
-ghost use Rattle.ss_io.specs.Causes.{HasCause};
+ghost use Rattle.ss_io.specs.Streams.{HasCause};
 
 use crate::Failed;
 

@@ -1,6 +1,6 @@
 ghost use Rattle.std.specs.Prelude.{◌≡◌, ◌<◌, ◌≤◌, ◌↔◌, length, IsSome, IfOk};
 ghost use Rattle.std.specs.Io.KnownBytes.{WriteAppends};
-ghost use Rattle.ss_io.specs.Written.{PutAppends};
+ghost use Rattle.ss_io.specs.Streams.{PutAppends};
 
 use crate::failure::{Failures, StreamCall, StreamFailure};
 use crate::{Failed, Sink};

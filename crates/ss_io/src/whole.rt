@@ -3,7 +3,7 @@
 ghost use Rattle.std.specs.Prelude.{◌≡◌, ◌≢◌, ◌<◌, ◌≤◌, vec_len, length, Err, IfOk};
 ghost use Rattle.std.specs.Option.{ForSome};
 ghost use Rattle.std.specs.Io.KnownBytes.{Consumes, IsAtEnd};
-ghost use Rattle.ss_io.specs.Causes.{Rose};
+ghost use Rattle.ss_io.specs.Streams.{Rose};
 
 use crate::{Failed, Source};
 use ss_cid::NoMemory;

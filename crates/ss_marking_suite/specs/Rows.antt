@@ -1,8 +1,5 @@
 -- Rows for the blocks of an ordered map.
-use Rattle.std.specs.Prelude.{ℕ, Bool, List, is_some}
-use Rattle.std.specs.Ordering.{nat_cmp}
-use Rattle.std.specs.Cmp.Lexicographic.{slice_cmp}
-use Rattle.std.specs.BTreeMap.{BTreeMap, get}
+use Rattle.std.specs.{Prelude.{ℕ, Bool, List, is_some}, Ordering.nat_cmp, Cmp.Lexicographic.slice_cmp, BTreeMap.{BTreeMap, get}}
 use Rattle.ss_marks.specs.Marks.{MarkTable}
 use Rattle.ss_txn.specs.Marked.{HasRowsOf}
 

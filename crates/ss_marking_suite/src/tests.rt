@@ -3,8 +3,11 @@ ghost use Rattle.ss_marking_suite.specs.Rows.{HasRowsFor};
 
 mod forms;
 mod graph;
+mod marks;
+mod model;
 mod random;
 mod stored;
+mod txn;
 
 use forms::{array_of, numbered};
 use graph::{random_block, random_link, stored_under};

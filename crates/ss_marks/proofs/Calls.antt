@@ -1,5 +1,5 @@
 -- What a call knows of the fields.
-use Rattle.std.proofs.Common.{◌≡◌, ◌≢◌, ℕ, zero, suc, ◌+◌, ◌-◌, ◌<◌, ◌≤◌, ◌^◌, Bool, true, false, cond, eqb, List, length, get_or, set, Option, None, Some, is_some, refl, sym, ap, subst, ◌∙◌, inl, inr, ⊎_elim, arith, length-set}
+use Rattle.std.proofs.Common.{◌≡◌, ◌≢◌, ℕ, ◌+◌, ◌-◌, ◌<◌, ◌≤◌, ◌^◌, true, false, List, length, get_or, set, Option, None, Some, refl, sym, ap, subst, ◌∙◌, arith, length-set}
 use Rattle.std.specs.Prelude.{option_map, IsSome, MatchOption}
 use Rattle.std.specs.FinMap as finite_map
 use Rattle.std.specs.declared.vec.Vec.{Vec}
@@ -8,15 +8,15 @@ use Rattle.std.proofs.lemmas.Bool.{true≢false}
 use Rattle.std.proofs.lemmas.List.{with_items_is, get_or-set_same, get_or-set_other}
 use Rattle.std.proofs.lemmas.Option.{same_Some, none-some}
 use Rattle.ss_marks.specs.declared.colour.Colour.{Colour}
-use Rattle.ss_marks.specs.declared.colour.Colour.TheVariants.{White, Grey, Out, Black}
+use Rattle.ss_marks.specs.declared.colour.Colour.TheVariants.{Grey, Out}
 use Rattle.ss_marks.specs.declared.row.Row.{Row}
 use Rattle.ss_marks.specs.declared.marks.Marks.TheInside.{Inside}
-use Rattle.ss_marks.specs.Marks.{Mark, MarkTable, IsLive, IsColoured, row_of, colour_of, mark_of, same_colour, coloured, count_in}
+use Rattle.ss_marks.specs.Marks.{Mark, MarkTable, IsLive, IsColoured, row_of, colour_of, mark_of, same_colour, count_in}
 use Rattle.ss_marks.specs.Rows.{row_at, HasCid, with_colour, marks_of, IsStack}
 use Rattle.ss_marks.specs.Sound.{IsSound, IsGrey, table_of}
 use Rattle.ss_marks.proofs.Rows.{coloured_within}
-use Rattle.ss_marks.proofs.Colours.{one, itself, count_some, len_removed}
-use Rattle.ss_marks.proofs.Marked.{AreDistinct, IsRow, row_of_mark, mark_of_row, has_cid_of_mark, count_bound}
+use Rattle.ss_marks.proofs.Colours.{one, count_some, len_removed}
+use Rattle.ss_marks.proofs.Marked.{AreDistinct, row_of_mark, mark_of_row, has_cid_of_mark, count_bound}
 use Rattle.ss_marks.proofs.Stacks.{same_stack, pushed, top_of}
 use Rattle.ss_marks.proofs.Changes.{Recoloured, recoloured_from, recoloured_count, still_grey, has_cid_of_row}
 

@@ -1,8 +1,8 @@
 -- How a chain changes where a row joins or leaves it.
-use Rattle.std.proofs.Common.{◌≡◌, ◌≢◌, ℕ, ◌+◌, ◌-◌, ◌<◌, ◌≤◌, Bool, true, false, cond, eqb, List, length, get_or, set, Option, None, Some, refl, sym, ap, subst, ◌∙◌, inl, inr, ⊎_elim, arith}
+use Rattle.std.proofs.Common.{◌≡◌, ◌≢◌, ℕ, ◌+◌, ◌-◌, ◌<◌, ◌≤◌, cond, eqb, List, length, get_or, Option, Some, sym, ap, subst, ◌∙◌, ⊎_elim, arith}
 use Rattle.std.proofs.lemmas.Bool.{cases_eq, cases_lt, eq-eqb, ne_eqb}
 use Rattle.std.proofs.lemmas.Option.{same_Some}
-use Rattle.ss_marks.specs.Index.{IsLast, IsFalling, IsChained, IsAbove, pointer_of}
+use Rattle.ss_marks.specs.Index.{IsLast, IsChained, IsAbove}
 
 -- what is the last of a slot stays it, where the row that changes is neither it nor comes between
 kept : (f g : ℕ → Option ℕ) (row s n last : ℕ) → ((r : ℕ) → r ≢ row → g r ≡ f r)

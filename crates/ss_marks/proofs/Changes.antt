@@ -1,25 +1,25 @@
 -- How the fields of marks change.
-use Rattle.std.proofs.Common.{◌≡◌, ◌≢◌, ℕ, zero, suc, ◌+◌, ◌-◌, ◌<◌, ◌≤◌, Bool, true, false, cond, eqb, List, length, get_or, set, Option, None, Some, is_some, refl, sym, ap, subst, ◌∙◌, inl, inr, ⊎_elim, arith, length-set}
+use Rattle.std.proofs.Common.{◌≡◌, ◌≢◌, ℕ, ◌+◌, ◌-◌, List, length, get_or, set, Option, None, Some, is_some, refl, sym, ap, subst, ◌∙◌, ⊎_elim, arith, length-set}
 use Rattle.std.specs.Prelude.{option_map, IsSome, vec_capacity}
 use Rattle.std.specs.FinMap as finite_map
 use Rattle.std.specs.declared.vec.Vec.{Vec}
 use Rattle.std.specs.Vec.{with_items}
-use Rattle.std.proofs.lemmas.Bool.{cases_eq, cases_lt, true≢false, eq-eqb, ne_eqb, cond-true, cond-false}
+use Rattle.std.proofs.lemmas.Bool.{cases_eq}
 use Rattle.std.proofs.lemmas.List.{get_or-set_same, get_or-set_other, with_items_is}
 use Rattle.std.proofs.lemmas.Option.{same_Some, none-some}
 use Rattle.ss_marks.specs.declared.colour.Colour.{Colour}
-use Rattle.ss_marks.specs.declared.colour.Colour.TheVariants.{White, Grey, Out, Black}
+use Rattle.ss_marks.specs.declared.colour.Colour.TheVariants.{Grey, Out}
 use Rattle.ss_marks.specs.declared.row.Row.{Row}
 use Rattle.ss_marks.specs.declared.index.Index.{Index}
 use Rattle.ss_marks.specs.declared.marks.Marks.TheInside.{Inside}
-use Rattle.ss_marks.specs.Marks.{CidMap, Mark, MarkTable, same_colour, has_colour, count_in, coloured}
+use Rattle.ss_marks.specs.Marks.{Mark, MarkTable, same_colour, has_colour, count_in, coloured}
 use Rattle.ss_marks.specs.Rows.{no_row, row_at, HasCid, with_colour, slot_of, marks_of, IsVacant, IsStack}
-use Rattle.ss_marks.specs.Index.{IsChained, Indexes, IndexesOthers, slot_at, without_row}
+use Rattle.ss_marks.specs.Index.{IsChained, Indexes, slot_at}
 use Rattle.ss_marks.specs.Sound.{IsSound, IsGrey, table_of}
 use Rattle.ss_marks.proofs.Rows.{coloured_within}
 use Rattle.ss_marks.proofs.Colours.{one, count_insert, len_replaced}
-use Rattle.ss_marks.proofs.Marked.{AreDistinct, row_of_mark, mark_of_row, has_cid_of_mark, marks_changed, mark_gone}
-use Rattle.ss_marks.proofs.Stacks.{same_stack, pushed, popped}
+use Rattle.ss_marks.proofs.Marked.{AreDistinct, mark_of_row, has_cid_of_mark, marks_changed}
+use Rattle.ss_marks.proofs.Stacks.{same_stack}
 
 pub live_of : (o : Option Colour) (c : Colour) → o ≡ Some c → IsSome o
 live_of o c is = ap is_some is

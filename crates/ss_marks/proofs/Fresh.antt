@@ -1,5 +1,5 @@
 -- Marks of no rows, and with more room.
-use Rattle.std.proofs.Common.{◌≡◌, ◌≢◌, ℕ, ◌+◌, ◌-◌, ◌<◌, ◌≤◌, ◌^◌, List, [], length, get_or, Option, None, Some, refl, sym, ap, subst, ◌∙◌, arith}
+use Rattle.std.proofs.Common.{◌≡◌, ◌≢◌, ℕ, ◌-◌, ◌<◌, ◌≤◌, ◌^◌, List, [], length, get_or, Some, sym, ap, subst, ◌∙◌, arith}
 use Rattle.std.specs.Prelude.{option_map, IsSome, vec_capacity}
 use Rattle.std.specs.FinMap as finite_map
 use Rattle.std.proofs.lemmas.Option.{none-some}
@@ -12,7 +12,7 @@ use Rattle.ss_marks.specs.declared.row.Row.{Row}
 use Rattle.ss_marks.specs.declared.stack.Stack.{Stack}
 use Rattle.ss_marks.specs.declared.marks.Marks.TheInside.{Inside}
 use Rattle.ss_marks.specs.Marks.{Mark, count_in}
-use Rattle.ss_marks.specs.Rows.{no_row, row_at, HasCid, slot_of, marks_of, IsVacant, IsStack}
+use Rattle.ss_marks.specs.Rows.{row_at, HasCid, marks_of, IsVacant, IsStack}
 use Rattle.ss_marks.specs.Index.{IsChained, Indexes, slot_at}
 use Rattle.ss_marks.specs.Sound.{IsSound, IsGrey}
 use Rattle.ss_marks.proofs.Rows.{coloured_within}

@@ -1,9 +1,9 @@
 -- A row joins the chain of its slot, or leaves it.
-use Rattle.std.proofs.Common.{◌≡◌, ◌≢◌, ℕ, ◌+◌, ◌-◌, ◌<◌, ◌≤◌, Bool, true, false, cond, eqb, List, length, get_or, set, Option, None, Some, refl, sym, ap, subst, ◌∙◌, inl, inr, ⊎_elim, arith, length-set}
+use Rattle.std.proofs.Common.{◌≡◌, ◌≢◌, ℕ, ◌+◌, ◌-◌, ◌<◌, ◌≤◌, Bool, true, false, cond, eqb, List, length, get_or, set, Option, None, Some, refl, sym, ap, subst, ◌∙◌, ⊎_elim, arith, length-set}
 use Rattle.std.proofs.lemmas.Bool.{cases_eq, cases_lt, eq-eqb, ne_eqb, cond-true, cond-false}
 use Rattle.std.proofs.lemmas.List.{get_or-set_same, get_or-set_other}
 use Rattle.std.proofs.lemmas.Option.{same_Some, none-some}
-use Rattle.ss_marks.specs.Index.{IsLast, IsFalling, IsChained, IsAbove, pointer_of, without_row}
+use Rattle.ss_marks.specs.Index.{IsLast, IsChained, IsAbove, pointer_of, without_row}
 use Rattle.ss_marks.proofs.Walks.{pointer_head, pointer_link}
 use Rattle.ss_marks.proofs.Chains.{rechained}
 

@@ -1,7 +1,7 @@
 -- The marks that rows are.
-use Rattle.std.proofs.Common.{◌≡◌, ◌≢◌, ℕ, zero, suc, ◌+◌, ◌-◌, ◌<◌, ◌≤◌, Bool, true, false, cond, List, [], ◌∷◌, length, get_or, map, Option, None, Some, is_some, refl, sym, ap, subst, ◌∙◌, inl, inr, ⊎_elim, arith}
+use Rattle.std.proofs.Common.{◌≡◌, ◌≢◌, ℕ, zero, suc, ◌+◌, ◌-◌, ◌≤◌, Bool, true, false, cond, List, [], ◌∷◌, length, Option, None, Some, is_some, refl, sym, ap, subst, ◌∙◌, ⊎_elim, arith}
 use Rattle.std.specs.Prelude.{option_map, IsSome}
-use Rattle.std.proofs.lemmas.Bool.{cases_eq, cases_lt, true≢false, cases_Bool, eqb-true, eq-eqb}
+use Rattle.std.proofs.lemmas.Bool.{cases_eq, true≢false}
 use Rattle.std.proofs.lemmas.Option.{same_Some, none-some}
 use Rattle.std.specs.Ordering.{nat_cmp, eq_by_cmp, is_eq}
 use Rattle.std.specs.Cmp.{tied_itself, Equal-is}
@@ -10,7 +10,7 @@ use Rattle.std.specs.FinMap as finite_map
 use Rattle.std.specs.FinMap.{find}
 use Rattle.ss_marks.specs.declared.colour.Colour.{Colour}
 use Rattle.ss_marks.specs.declared.row.Row.{Row}
-use Rattle.ss_marks.specs.Marks.{CidMap, Mark, same_colour, count_in}
+use Rattle.ss_marks.specs.Marks.{Mark, same_colour, count_in}
 use Rattle.ss_marks.specs.Rows.{no_row, row_at, HasCid, with_entry, entries_from, marks_of}
 use Rattle.ss_marks.proofs.Colours.{by_bytes, exact, one, count_insert, count_of_none}
 

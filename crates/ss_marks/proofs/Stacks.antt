@@ -1,5 +1,5 @@
 -- Stacks that are linked through the rows.
-use Rattle.std.proofs.Common.{◌≡◌, ◌≢◌, ℕ, zero, suc, ◌+◌, ◌-◌, ◌<◌, ◌≤◌, List, length, get_or, refl, sym, ap, subst, ◌∙◌, arith}
+use Rattle.std.proofs.Common.{◌≡◌, ◌≢◌, ℕ, zero, suc, ◌+◌, ◌<◌, List, get_or, refl, sym, subst, arith}
 use Rattle.ss_marks.specs.Rows.{IsStack}
 
 -- what holds of its rows may change, and so may other links

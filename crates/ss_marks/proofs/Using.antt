@@ -1,15 +1,12 @@
 -- For callers: what the marks are after a call, CID by CID.
-use Rattle.std.proofs.Common.{◌≡◌, ◌≢◌, ℕ, Bool, true, false, cond, List, Option, None, Some, refl, sym, ap, subst, ◌∙◌, ⊎_elim}
+use Rattle.std.proofs.Common.{◌≡◌, ◌≢◌, ℕ, true, false, cond, List, None, Some, refl, sym, ap, ◌∙◌}
 use Rattle.std.specs.Prelude.{option_map}
 use Rattle.std.specs.FinMap as finite_map
 use Rattle.std.proofs.lemmas.Bool.{true≢false, cond-true, cond-false, false_from_ne_true}
-use Rattle.std.proofs.lemmas.Option.{same_Some, none-some}
 use Rattle.ss_marks.specs.declared.colour.Colour.{Colour}
-use Rattle.ss_marks.specs.declared.colour.Colour.TheVariants.{White}
-use Rattle.ss_marks.specs.Marks.{CidMap, Mark, MarkTable, mark_of, row_of, colour_of, IsLive, IsColoured, Recolours, coloured, whitened}
+use Rattle.ss_marks.specs.Marks.{CidMap, Mark, MarkTable, mark_of, row_of, IsLive, IsColoured, Recolours, coloured}
 use Rattle.ss_marks.proofs.Colours.{by_bytes}
 use Rattle.ss_marks.proofs.Marked.{eq_cid, eq_cid-itself, eq_cid-true}
-use Rattle.ss_marks.proofs.Calls.{coloured_of}
 
 module _ (marks : CidMap Mark) (cid : List ℕ) where
   -- after a mark is inserted, at its CID and at another

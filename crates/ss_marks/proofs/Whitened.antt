@@ -1,6 +1,6 @@
 -- All rows are white.
-use Rattle.std.proofs.Common.{◌≡◌, ◌≢◌, ℕ, zero, suc, ◌+◌, ◌-◌, ◌<◌, ◌≤◌, Bool, true, false, cond, List, [], ◌∷◌, length, get_or, map, Option, None, Some, is_some, refl, sym, ap, subst, ◌∙◌, inl, inr, ⊎_elim, arith}
-use Rattle.std.specs.Prelude.{option_map, IsSome, vec_capacity}
+use Rattle.std.proofs.Common.{◌≡◌, ◌≢◌, ℕ, zero, suc, ◌+◌, ◌-◌, Bool, true, false, cond, List, [], ◌∷◌, length, Option, None, Some, is_some, refl, sym, ap, subst, ◌∙◌, arith}
+use Rattle.std.specs.Prelude.{option_map, vec_capacity}
 use Rattle.std.proofs.lemmas.Bool.{true≢false}
 use Rattle.std.proofs.lemmas.Option.{same_Some, none-some}
 use Rattle.std.specs.Ordering.{nat_cmp}
@@ -15,12 +15,12 @@ use Rattle.ss_marks.specs.declared.colour.Colour.TheVariants.{White, Grey, Out}
 use Rattle.ss_marks.specs.declared.row.Row.{Row}
 use Rattle.ss_marks.specs.declared.index.Index.{Index}
 use Rattle.ss_marks.specs.declared.marks.Marks.TheInside.{Inside}
-use Rattle.ss_marks.specs.Marks.{CidMap, Mark, MarkTable, same_colour, count_in, whitened}
-use Rattle.ss_marks.specs.Rows.{no_row, row_at, HasCid, whitened_row, whitened_rows, with_entry, entries_from, slot_of, marks_of, IsVacant, IsStack}
+use Rattle.ss_marks.specs.Marks.{Mark, same_colour, count_in, whitened}
+use Rattle.ss_marks.specs.Rows.{row_at, HasCid, whitened_row, whitened_rows, with_entry, entries_from, slot_of, marks_of, IsVacant, IsStack}
 use Rattle.ss_marks.specs.Index.{IsChained, Indexes, slot_at}
 use Rattle.ss_marks.specs.Sound.{IsSound, IsGrey}
 use Rattle.ss_marks.proofs.Colours.{by_bytes, count_of_none}
-use Rattle.ss_marks.proofs.Marked.{AreDistinct, eq_cid, row_of_mark, mark_of_row, has_cid_of_mark, get_is}
+use Rattle.ss_marks.proofs.Marked.{AreDistinct, eq_cid, row_of_mark, mark_of_row, has_cid_of_mark}
 use Rattle.ss_marks.proofs.Stacks.{same_stack}
 use Rattle.ss_marks.proofs.Calls.{mark_of_has}
 

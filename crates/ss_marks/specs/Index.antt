@@ -1,8 +1,6 @@
 -- A hash table whose chains go down by row numbers.
 use Rattle.std.specs.Prelude.{◌≡◌, ℕ, ◌+◌, ◌-◌, ◌<◌, ◌≤◌, ◌==◌, if◌then◌else◌, List, length, Option, None, Some, option_map, slice_index}
-use Rattle.ss_marks.specs.declared.index.Index.{Index}
-use Rattle.ss_marks.specs.declared.row.Row.{Row}
-use Rattle.ss_marks.specs.Rows.{row_at, slot_of}
+use Rattle.ss_marks.specs.{declared.index.Index.Index, declared.row.Row.Row, Rows.{row_at, slot_of}}
 
 -- the greatest number below n of which P holds, plus one, or 0 where there is none
 pub record IsLast (P : ℕ → Type 0) (n last : ℕ) : Type 0 where

@@ -1,5 +1,4 @@
 pub mod Marks
-pub mod Codes
 pub mod Rows
 pub mod Index
 pub mod Sound

@@ -1,9 +1,9 @@
--- What contracts see of marks: which CIDs have a row, and its colour. Colours are those of tri-colour marking, with one more for
--- what is being read.
-use Rattle.std.specs.Prelude.{◌≡◌, ◌≢◌, ℕ, Bool, true, false, List, Option, None, Some, option_map}
+-- What contracts see of marks: which CIDs have a row, and its colour, one of tri-colour marking or that of what is being read.
+use Rattle.std.specs.{Prelude.{◌≡◌, ◌≢◌, ℕ, Bool, true, false, List, Option, None, Some, option_map, refl}, Coded.{Coded, code_by, coded×, coded_ℕ, coded_list}}
+use Rattle.ss_marks.specs.declared.colour.Colour.{Colour}
 use Rattle.std.specs.FinMap as finite_map
 pub use Rattle.ss_cid.specs.Maps.{CidMap}
-use Rattle.ss_marks.specs.declared.colour.Colour.{Colour}
+use Rattle.ss_marks.specs.contracts.colour.Colour as colour
 
 -- the row of a CID, and its colour
 pub record Mark : Type 0 where
@@ -74,3 +74,13 @@ marks_in colour marks = finite_map.retain_keys marks (λ cid. has_colour colour 
 
 abbrev pub count_in : Colour → CidMap Mark → ℕ
 count_in colour marks = finite_map.len (marks_in colour marks)
+
+-- how marks and tables of them are told apart
+abbrev pub mark_code : Coded Mark
+mark_code =
+    code_by (ℕ × Colour) (coded× coded_ℕ colour.the_row.coded) (λ m. (m.row, m.colour)) (λ p. record { row = p.0; colour = p.1 }) (λ _. refl)
+
+abbrev pub table_code : Coded MarkTable
+table_code =
+    code_by (CidMap Mark × (ℕ × ℕ)) (coded× (finite_map.code (coded_list coded_ℕ) mark_code) (coded× coded_ℕ coded_ℕ))
+    (λ t. (t.marks, (t.spare, t.limit))) (λ p. record { marks = p.0; spare = p.1.0; limit = p.1.1 }) (λ _. refl)

@@ -2,9 +2,7 @@
 use Rattle.std.specs.Prelude.{◌≡◌, ℕ, ◌+◌, ◌%◌, List, [], ◌∷◌, map, Option, None, Some, IsSome, option_map, slice_index_or, slice_set, ◌<◌, length, ◌≢◌, zero, suc, slice_index}
 use Rattle.std.specs.FinMap as finite_map
 use Rattle.std.specs.Hash.FoldHasher as folding
-use Rattle.ss_marks.specs.declared.colour.Colour.{Colour}
-use Rattle.ss_marks.specs.declared.row.Row.{Row}
-use Rattle.ss_marks.specs.Marks.{CidMap, Mark}
+use Rattle.ss_marks.specs.{declared.colour.Colour.Colour, declared.row.Row.Row, Marks.{CidMap, Mark}}
 
 -- a vacant row, which stands for every number past the last row
 abbrev pub no_row : Row

@@ -1,12 +1,7 @@
 -- What holds of the fields of marks, and what contracts see of them.
 use Rattle.std.specs.Prelude.{◌≡◌, ℕ, ◌+◌, ◌-◌, ◌<◌, ◌≤◌, ◌^◌, List, length, Some, vec_capacity}
 use Rattle.std.specs.FinMap as finite_map
-use Rattle.ss_marks.specs.declared.colour.Colour.{Colour}
-use Rattle.ss_marks.specs.declared.row.Row.{Row}
-use Rattle.ss_marks.specs.declared.marks.Marks.TheInside.{Inside}
-use Rattle.ss_marks.specs.Marks.{MarkTable, count_in}
-use Rattle.ss_marks.specs.Rows.{row_at, HasCid, marks_of, IsVacant, IsStack}
-use Rattle.ss_marks.specs.Index.{Indexes}
+use Rattle.ss_marks.specs.{declared.colour.Colour.Colour, declared.row.Row.Row, declared.marks.Marks.TheInside.Inside, Marks.{MarkTable, count_in}, Rows.{row_at, HasCid, marks_of, IsVacant, IsStack}, Index.Indexes}
 
 abbrev pub IsGrey : List Row → ℕ → Type 0
 IsGrey rows row = (row_at rows row).colour ≡ Some Colour.Grey

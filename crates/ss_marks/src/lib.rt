@@ -41,8 +41,6 @@ mod marks;
 mod room;
 mod row;
 mod stack;
-#[cfg(test)]
-mod tests;
 
 pub use colour::Colour;
 pub use fault::RowFault;

@@ -35,8 +35,7 @@ pub struct Marks {
 }
 
 impl Model for Marks {
-    ghost use Rattle.ss_marks.specs.Marks.{MarkTable};
-    ghost use Rattle.ss_marks.specs.Codes.{table_code};
+    ghost use Rattle.ss_marks.specs.Marks.{MarkTable, table_code};
 
     ghost Value = { MarkTable };
 

@@ -1,13 +1,13 @@
 -- A head stays a tipset of blocks that are there, whatever blocks join.
 use Rattle.std.proofs.Common.{◌≡◌, ⊎_elim, ℕ, zero, suc, ◌≤◌, Bool, true, false, List, [], ◌∷◌, Option, Some, None, refl, sym, ap, ◌∙◌, subst, true≢false, arith}
+use Rattle.std.specs.Option.{option_or}
 use Rattle.std.specs.Prelude.{◌<◌, length, is_some, if◌then◌else◌, slice_get, unwrap_or, option_map, option_and_then, Ok}
 use Rattle.std.proofs.lemmas.Bool.{cases_lt}
 use Rattle.std.proofs.lemmas.Option.{slice_get_within}
 use Rattle.std.specs.FinMap as finite_map
 use Rattle.ss_cid.specs.Cid.{identity_of}
 use Rattle.ss_chain.specs.Fetch.{fetched}
-use Rattle.ss_chain.specs.Steps.{or_else}
-use Rattle.ss_chain.specs.First.{first_of}
+use Rattle.ss_chain.specs.Steps.{first_of}
 use Rattle.ss_chain.specs.Tipset.{cids_fault, tipset_of}
 use Rattle.ss_model.specs.State.{Kept}
 use Rattle.ss_model.specs.Lawful.{is_known}
@@ -16,7 +16,7 @@ use Rattle.ss_model.specs.declared.call.HeadReply.TheVariants as head
 use Rattle.ss_model.proofs.Kept.{fetched_is}
 
 -- where the first of two is none and so is the other, both are
-neither : {A : Type 0} (x y : Option A) → or_else x y ≡ None → (x ≡ None) × (y ≡ None)
+neither : {A : Type 0} (x y : Option A) → option_or x y ≡ None → (x ≡ None) × (y ≡ None)
 neither None y e = (refl, e)
 neither (Some a) y e = absurd (true≢false (ap is_some e))
 
@@ -53,7 +53,7 @@ module _ (kept more : Kept) (stays : (c b : List ℕ) → finite_map.get kept c 
   fetched_stays : (c : List ℕ) → is_known kept c ≡ true → fetched more c ≡ fetched kept c
   fetched_stays c known = go (fetched kept c) refl known
     where
-      on : (b : List ℕ) (id was : Option (List ℕ)) → ((b : List ℕ) → was ≡ Some b → finite_map.get more c ≡ Some b) → or_else id was ≡ Some b → or_else id (finite_map.get more c) ≡ Some b
+      on : (b : List ℕ) (id was : Option (List ℕ)) → ((b : List ℕ) → was ≡ Some b → finite_map.get more c ≡ Some b) → option_or id was ≡ Some b → option_or id (finite_map.get more c) ≡ Some b
       on b (Some d) was stay is = is
       on b None was stay is = stay b is
 

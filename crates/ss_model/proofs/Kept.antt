@@ -1,5 +1,6 @@
 -- What is kept stays, is valid, is under no identity CID, is hot, and fits its table.
 use Rattle.std.proofs.Common.{◌≡◌, ◌≢◌, ◌⊎◌, ⊎_elim, inl, inr, ℕ, zero, suc, Bool, true, false, cond, List, [], ◌∷◌, Option, Some, None, refl, sym, ap, ◌∙◌, subst, true≢false, arith}
+use Rattle.std.specs.Option.{option_or}
 use Rattle.std.specs.Prelude.{◌==◌, ◌||◌, is_some, slice_get}
 use Rattle.std.specs.Ordering.{nat_cmp, eq_by_cmp}
 use Rattle.std.specs.Cmp.{Equal-is, tied_itself}
@@ -10,7 +11,6 @@ use Rattle.std.specs.FinSet as set
 use Rattle.std.specs.FinSet.{contains-insert}
 use Rattle.ss_cid.specs.Cid.{hash_of, digest_of, identity_of}
 use Rattle.ss_chain.specs.Fetch.{is_identity, fetched}
-use Rattle.ss_chain.specs.Steps.{or_else}
 use Rattle.ss_hash.specs.Digest.{IsValid}
 use Rattle.ss_model.specs.State.{Kept, CidSet, State}
 use Rattle.ss_model.specs.Lawful.{is_known, with_block, with_blocks, with_hot_cid, with_hot, AreSound, LawfulGet, after_put, After}
@@ -30,18 +30,18 @@ inserted kept k v c = go (eq_by_cmp (slice_cmp nat_cmp) c k) refl
     go false e = inr (get-insert nat_list_cmp_total kept k v c ∙ ap (λ b. cond b (Some v) (map.get kept c)) e)
 
 -- an identity CID stands for its digest, and another for what is kept under it
-pub fetched_is : (kept : Kept) (c : List ℕ) → fetched kept c ≡ or_else (identity_of c) (map.get kept c)
+pub fetched_is : (kept : Kept) (c : List ℕ) → fetched kept c ≡ option_or (identity_of c) (map.get kept c)
 unfolding fetched is_identity identity_of
 fetched_is kept c = go (hash_of c == 0)
   where
-    go : (b : Bool) → cond b (Some (digest_of c)) (map.get kept c) ≡ or_else (cond b (Some (digest_of c)) None) (map.get kept c)
+    go : (b : Bool) → cond b (Some (digest_of c)) (map.get kept c) ≡ option_or (cond b (Some (digest_of c)) None) (map.get kept c)
     go true = refl
     go false = refl
 
-pub known_is : (kept : Kept) (c : List ℕ) → is_known kept c ≡ is_some (or_else (identity_of c) (map.get kept c))
+pub known_is : (kept : Kept) (c : List ℕ) → is_known kept c ≡ is_some (option_or (identity_of c) (map.get kept c))
 known_is kept c = ap is_some (fetched_is kept c)
 
-some_or : (id kept : Option (List ℕ)) (b : List ℕ) → kept ≡ Some b → is_some (or_else id kept) ≡ true
+some_or : (id kept : Option (List ℕ)) (b : List ℕ) → kept ≡ Some b → is_some (option_or id kept) ≡ true
 some_or (Some d) kept b e = refl
 some_or None kept b e = ap is_some e
 
@@ -76,7 +76,7 @@ stays s (e ∷ h) c b is =
 
 -- a CID that stands for a block goes on to
 
-known_more : (id kept more : Option (List ℕ)) → is_some (or_else id kept) ≡ true → ((b : List ℕ) → kept ≡ Some b → more ≡ Some b) → is_some (or_else id more) ≡ true
+known_more : (id kept more : Option (List ℕ)) → is_some (option_or id kept) ≡ true → ((b : List ℕ) → kept ≡ Some b → more ≡ Some b) → is_some (option_or id more) ≡ true
 known_more (Some d) kept more known stays = refl
 known_more None None more known stays = absurd (true≢false (sym known))
 known_more None (Some b) more known stays = ap is_some (stays b refl)
@@ -145,7 +145,7 @@ nothing_kept k x none = true≢false (sym (ap is_some (sym (get-empty (slice_cmp
 abbrev pub AreStored : Kept → Type 0
 AreStored kept = (c b : List ℕ) → map.get kept c ≡ Some b → identity_of c ≡ None
 
-no_identity : (id kept : Option (List ℕ)) → is_some (or_else id kept) ≡ false → id ≡ None
+no_identity : (id kept : Option (List ℕ)) → is_some (option_or id kept) ≡ false → id ≡ None
 no_identity (Some d) kept e = absurd (true≢false e)
 no_identity None kept e = refl
 
@@ -186,7 +186,7 @@ block_kept kept hot p are c =
     by_known true e is = in_known _ refl e (sym (contains-insert nat_list_cmp_total hot p.0 c) ∙ is)
     by_known false e is = ap is_some (get-insert nat_list_cmp_total kept p.0 p.1 c) ∙ in_new _ (sym (contains-insert nat_list_cmp_total hot p.0 c) ∙ is)
 
-    by_identity : (id : Option (List ℕ)) → set.contains (cond (is_some id) hot (set.insert hot p.0)) c ≡ true → is_some (map.get (cond (is_some (or_else id (map.get kept p.0))) kept (map.insert kept p.0 p.1)) c) ≡ true
+    by_identity : (id : Option (List ℕ)) → set.contains (cond (is_some id) hot (set.insert hot p.0)) c ≡ true → is_some (map.get (cond (is_some (option_or id (map.get kept p.0))) kept (map.insert kept p.0 p.1)) c) ≡ true
     by_identity (Some d) = are c
     by_identity None = by_known (is_some (map.get kept p.0)) refl
 
@@ -216,7 +216,7 @@ block_hot kept hot p are c =
     by_known true is = contains-insert nat_list_cmp_total hot p.0 c ∙ known_before _ is
     by_known false is = contains-insert nat_list_cmp_total hot p.0 c ∙ new_now _ (sym (ap is_some (get-insert nat_list_cmp_total kept p.0 p.1 c)) ∙ is)
 
-    by_identity : (id : Option (List ℕ)) → is_some (map.get (cond (is_some (or_else id (map.get kept p.0))) kept (map.insert kept p.0 p.1)) c) ≡ true → set.contains (cond (is_some id) hot (set.insert hot p.0)) c ≡ true
+    by_identity : (id : Option (List ℕ)) → is_some (map.get (cond (is_some (option_or id (map.get kept p.0))) kept (map.insert kept p.0 p.1)) c) ≡ true → set.contains (cond (is_some id) hot (set.insert hot p.0)) c ≡ true
     by_identity (Some d) = are c
     by_identity None = by_known (is_some (map.get kept p.0))
 

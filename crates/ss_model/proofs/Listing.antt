@@ -14,7 +14,7 @@ use Rattle.ss_chain.specs.Follows.{followed}
 use Rattle.ss_chain.specs.Reach.{Reach}
 use Rattle.ss_model.specs.declared.met.Met.{Met}
 use Rattle.ss_model.specs.Met.{was_met, Meets, Reads}
-use Rattle.ss_model.specs.Places.{ArePlaces}
+use Rattle.ss_model.specs.Lawful.{ArePlaces}
 use Rattle.ss_model.proofs.Members.{none-Contains, filter-Contains, Contains-filter}
 use Rattle.ss_model.proofs.Meeting.{is_same, meets_none}
 use Rattle.ss_model.proofs.Placing.{placed-kept}

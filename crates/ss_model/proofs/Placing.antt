@@ -15,7 +15,7 @@ use Rattle.ss_cid.specs.Maps.{Kept}
 use Rattle.ss_chain.specs.Fetch.{is_identity, fetched}
 use Rattle.ss_chain.specs.Parcel.{kept_of}
 use Rattle.ss_chain.proofs.Kept.{fetched-stored}
-use Rattle.ss_model.specs.Places.{block_at, ArePlaces}
+use Rattle.ss_model.specs.Lawful.{block_at, ArePlaces}
 
 abbrev place_of : BTreeMap (List ℕ) ℕ → List ℕ → Option ℕ
 place_of = get (slice_cmp nat_cmp)

@@ -1,12 +1,7 @@
--- Setting a tipset as head: what its CIDs and their blocks decide. Which blocks are a tipset is after Filecoin; the order of
--- refusals is this project's own.
-use Rattle.std.specs.Prelude.{◌≡◌, ℕ, ◌+◌, ◌-◌, ◌^◌, min, if◌then◌else◌, List, [], map, length, Option, None, Some, Ok, is_some, option_map, option_and_then, unwrap_or, slice_get, sum_by}
+-- Setting a tipset as head, by its CIDs and their blocks. Tipsets are after Filecoin; the order of refusals is this project's own.
+use Rattle.std.specs.{Prelude.{◌≡◌, ℕ, ◌+◌, ◌-◌, ◌^◌, min, if◌then◌else◌, List, [], map, length, Option, None, Some, Ok, is_some, option_map, option_and_then, unwrap_or, slice_get, sum_by}, Option.option_or}
 use Rattle.ss_cid.specs.Maps.{Kept}
-use Rattle.ss_chain.specs.Fetch.{fetched}
-use Rattle.ss_chain.specs.First.{first_of}
-use Rattle.ss_chain.specs.Steps.{or_else}
-use Rattle.ss_chain.specs.Tipset.{cids_fault, tipset_of, fault_in}
-use Rattle.ss_chain.specs.declared.tipset_fault.TipsetFault.{TipsetFault}
+use Rattle.ss_chain.specs.{Fetch.fetched, Steps.first_of, Tipset.{cids_fault, tipset_of, fault_in}, declared.tipset_fault.TipsetFault.TipsetFault}
 use Rattle.ss_model.specs.declared.call.HeadReply.{HeadReply}
 
 -- the CIDs, each with the bytes that it stands for
@@ -28,18 +23,17 @@ absent_at kept cids i = option_and_then (λ c. if is_some (fetched kept c) then 
 
 -- what is refused before a block is read: a fault of the CIDs alone, or the first that stands for nothing
 abbrev pub unread_refusal : Kept → List (List ℕ) → Option HeadReply
-unread_refusal kept cids = or_else (option_map answer_of (cids_fault cids)) (first_of (absent_at kept cids) (length cids))
+unread_refusal kept cids = option_or (option_map answer_of (cids_fault cids)) (first_of (absent_at kept cids) (length cids))
 
 -- what is refused, before a block is read or behind that
 abbrev pub head_refusal : Kept → List (List ℕ) → Option HeadReply
-head_refusal kept cids = or_else (unread_refusal kept cids) (option_map answer_of (fault_in (tipset_of (blocks_of kept cids))))
+head_refusal kept cids = option_or (unread_refusal kept cids) (option_map answer_of (fault_in (tipset_of (blocks_of kept cids))))
 
 -- the CIDs all stand for something, and their blocks are a tipset of this height
 pub record IsHead (kept : Kept) (cids : List (List ℕ)) (height : ℕ) : Type 0 where
   pub known : unread_refusal kept cids ≡ None
   pub tipset : tipset_of (blocks_of kept cids) ≡ Ok height
 
--- the bytes that the record of a head takes of a log: its gate, a length of four bytes, its kind, a count of one byte, a height
--- of eight, and the CIDs
+-- the bytes of a head's record in a log: its gate, a length of four bytes, its kind, a count of one byte, a height of eight, and the CIDs
 abbrev pub head_need : List (List ℕ) → ℕ
 head_need cids = 15 + sum_by length cids

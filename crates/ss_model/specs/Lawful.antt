@@ -3,19 +3,14 @@
 -- Each call has a list of answers, and the lawful one is the first whose condition holds. Three answers depend on more than
 -- the state: out of memory, a full log, whose room no state has, and a fault of the disk. Each may stand in its place in
 -- the list, and a later one too. Only an answer that is named with an effect changes the state.
-use Rattle.std.specs.Prelude.{◌≡◌, ◌≢◌, ℕ, ◌+◌, ◌-◌, ◌^◌, ◌<◌, ◌≤◌, nat_le, min, max, Bool, true, false, ◌||◌, List, [], ◌∷◌, length, Option, None, Some, if◌then◌else◌, is_some, option_map, IsOk, Err, slice_get, sum_by}
+use Rattle.std.specs.{Prelude.{◌≡◌, ◌≢◌, ℕ, ◌+◌, ◌-◌, ◌^◌, ◌<◌, ◌≤◌, nat_le, min, max, Bool, true, false, ◌||◌, List, [], ◌∷◌, length, Option, None, Some, if◌then◌else◌, is_some, option_map, IsOk, Err, slice_get, sum_by}, Ordering.nat_cmp, Cmp.Lexicographic.slice_cmp, BTreeMap.{BTreeMap, get}}
+use Rattle.ss_cid.specs.Cid.{codec_of, identity_of}
+use Rattle.ss_cbor.specs.{Fault.scanned, declared.fault.CborFault.CborFault}
+use Rattle.ss_chain.specs.{Fetch.fetched, Steps.passes}
+use Rattle.ss_hash.specs.Digest.{IsValid, IsUnknownHash}
+use Rattle.ss_model.specs.{Head.{unread_refusal, head_refusal, IsHead, head_need}, State.{Kept, CidSet, State}, declared.TheConstants.{VIEWS, PUT_BLOCKS, PUT_BYTES, BLOCK_BYTES}, declared.call.Call.Call, declared.call.Answer.Answer, declared.call.ViewReply.ViewReply, declared.call.PutReply.PutReply, declared.call.GetReply.GetReply, declared.call.CloseReply.CloseReply, declared.call.HasReply.HasReply, declared.call.SizeReply.SizeReply, declared.call.HeadReply.HeadReply, declared.call.Info.Info}
 use Rattle.std.specs.FinMap as map
 use Rattle.std.specs.FinSet as set
-use Rattle.ss_cid.specs.Cid.{codec_of, identity_of}
-use Rattle.ss_cbor.specs.Fault.{scanned}
-use Rattle.ss_cbor.specs.declared.fault.CborFault.{CborFault}
-use Rattle.ss_chain.specs.Fetch.{fetched}
-use Rattle.ss_chain.specs.Steps.{passes}
-use Rattle.ss_hash.specs.Digest.{IsValid, IsUnknownHash}
-use Rattle.ss_model.specs.Head.{unread_refusal, head_refusal, IsHead, head_need}
-use Rattle.ss_model.specs.State.{Kept, CidSet, State}
-use Rattle.ss_model.specs.declared.TheConstants.{VIEWS, PUT_BLOCKS, PUT_BYTES, BLOCK_BYTES}
-use Rattle.ss_model.specs.declared.call.{Call.Call, Answer.Answer, ViewReply.ViewReply, PutReply.PutReply, GetReply.GetReply, CloseReply.CloseReply, HasReply.HasReply, SizeReply.SizeReply, HeadReply.HeadReply, Info.Info}
 
 -- the view of this number is open
 abbrev pub is_open : State → ℕ → Bool
@@ -138,21 +133,12 @@ pub record IsAdmitted (s : State) (v : ℕ) (pairs : List (List ℕ × List ℕ)
   pub passed : IsPassed s v pairs
   pub rows : rows_after s pairs ≤ s.config.rows
 
--- the least number below the limit that is no open view's, if there is one
-abbrev pub LawfulView : State → ViewReply → Type 0
-LawfulView s (ViewReply.Opened n) = (n < VIEWS) × (is_open s n ≡ false) × ((k : ℕ) → k < n → is_open s k ≡ true)
-LawfulView s ViewReply.TooManyViews = (k : ℕ) → k < VIEWS → is_open s k ≡ true
-
--- so many blocks of the parcel are new
-abbrev pub LawfulAdd : State → List (List ℕ × List ℕ) → ℕ → Type 0
-LawfulAdd s pairs new = map.len s.kept + new ≡ rows_after s pairs
-
 abbrev pub LawfulPut : State → ℕ → List (List ℕ × List ℕ) → PutReply → Type 0
 LawfulPut s v pairs PutReply.NoMemory = IsPassed s v pairs
 LawfulPut s v pairs (PutReply.TableFull rows) = IsPassed s v pairs × (rows ≡ rows_after s pairs) × (s.config.rows < rows)
 LawfulPut s v pairs (PutReply.LogFull file need room) = IsAdmitted s v pairs × (file ≡ 0) × (new_pairs s.hot pairs ≢ []) × (need ≡ pairs_need (new_pairs s.hot pairs)) × (room < need)
 LawfulPut s v pairs PutReply.DiskFault = IsAdmitted s v pairs
-LawfulPut s v pairs (PutReply.Stored new) = IsAdmitted s v pairs × LawfulAdd s pairs new
+LawfulPut s v pairs (PutReply.Stored new) = IsAdmitted s v pairs × (map.len s.kept + new ≡ rows_after s pairs)
 LawfulPut s v pairs refusal = IsPutRefusal s v pairs refusal
 
 abbrev pub LawfulGet : State → ℕ → List ℕ → GetReply → Type 0
@@ -161,20 +147,6 @@ LawfulGet s v c GetReply.NotFound = (is_open s v ≡ true) × (fetched s.kept c 
 LawfulGet s v c GetReply.NoMemory = (is_open s v ≡ true) × (is_known s.kept c ≡ true)
 LawfulGet s v c GetReply.DiskFault = (is_open s v ≡ true) × (is_known s.kept c ≡ true) × (identity_of c ≡ None)
 LawfulGet s v c (GetReply.Found block) = (is_open s v ≡ true) × (fetched s.kept c ≡ Some block)
-
-abbrev pub LawfulClose : State → ℕ → CloseReply → Type 0
-LawfulClose s v CloseReply.BadView = is_open s v ≡ false
-LawfulClose s v CloseReply.Closed = is_open s v ≡ true
-
-abbrev pub LawfulHas : State → ℕ → List ℕ → HasReply → Type 0
-LawfulHas s v c HasReply.BadView = is_open s v ≡ false
-LawfulHas s v c HasReply.No = (is_open s v ≡ true) × (is_known s.kept c ≡ false)
-LawfulHas s v c HasReply.Yes = (is_open s v ≡ true) × (is_known s.kept c ≡ true)
-
-abbrev pub LawfulSize : State → ℕ → List ℕ → SizeReply → Type 0
-LawfulSize s v c SizeReply.BadView = is_open s v ≡ false
-LawfulSize s v c SizeReply.NotFound = (is_open s v ≡ true) × (fetched s.kept c ≡ None)
-LawfulSize s v c (SizeReply.Size n) = (is_open s v ≡ true) × (option_map length (fetched s.kept c) ≡ Some n)
 
 -- a fault of the disk may stop a head where no fault of the CIDs does: its blocks are read, or its record is written
 abbrev pub LawfulHead : State → List (List ℕ) → HeadReply → Type 0
@@ -192,29 +164,27 @@ is_due s = passes (λ h. nat_le (s.base + s.config.threshold) h.0) s.head
 abbrev pub info_of : State → Info
 info_of s = record { config = s.config; height = option_map (λ h. h.0) s.head; base = s.base; ended = s.ended; hot = set.len s.hot; kept = map.len s.kept; views = set.len s.views; running = false; due = is_due s }
 
--- the answer is lawful for this call at this state
+-- The answer is lawful for this call at this state. A view opens under the least number below the limit that is no open view's, if there is one.
 abbrev pub Lawful : State → Call → Answer → Type 0
-Lawful s Call.OpenView (Answer.View r) = LawfulView s r
+Lawful s Call.OpenView (Answer.View (ViewReply.Opened n)) = (n < VIEWS) × (is_open s n ≡ false) × ((k : ℕ) → k < n → is_open s k ≡ true)
+Lawful s Call.OpenView (Answer.View ViewReply.TooManyViews) = (k : ℕ) → k < VIEWS → is_open s k ≡ true
 Lawful s (Call.Put v pairs) (Answer.Put r) = LawfulPut s v pairs r
 Lawful s (Call.Get v c) (Answer.Get r) = LawfulGet s v c r
-Lawful s (Call.CloseView v) (Answer.Close r) = LawfulClose s v r
-Lawful s (Call.Has v c) (Answer.Has r) = LawfulHas s v c r
-Lawful s (Call.Size v c) (Answer.Size r) = LawfulSize s v c r
+Lawful s (Call.CloseView v) (Answer.Close CloseReply.BadView) = is_open s v ≡ false
+Lawful s (Call.CloseView v) (Answer.Close CloseReply.Closed) = is_open s v ≡ true
+Lawful s (Call.Has v c) (Answer.Has HasReply.BadView) = is_open s v ≡ false
+Lawful s (Call.Has v c) (Answer.Has HasReply.No) = (is_open s v ≡ true) × (is_known s.kept c ≡ false)
+Lawful s (Call.Has v c) (Answer.Has HasReply.Yes) = (is_open s v ≡ true) × (is_known s.kept c ≡ true)
+Lawful s (Call.Size v c) (Answer.Size SizeReply.BadView) = is_open s v ≡ false
+Lawful s (Call.Size v c) (Answer.Size SizeReply.NotFound) = (is_open s v ≡ true) × (fetched s.kept c ≡ None)
+Lawful s (Call.Size v c) (Answer.Size (SizeReply.Size n)) = (is_open s v ≡ true) × (option_map length (fetched s.kept c) ≡ Some n)
 Lawful s (Call.SetHead cids) (Answer.Head r) = LawfulHead s cids r
 Lawful s Call.Info (Answer.Info i) = i ≡ info_of s
 Lawful s _ _ = ⊥
 
-abbrev pub after_view : State → ViewReply → State
-after_view s (ViewReply.Opened n) = record s { views = set.insert s.views n }
-after_view s ViewReply.TooManyViews = s
-
 abbrev pub after_put : State → List (List ℕ × List ℕ) → PutReply → State
 after_put s pairs (PutReply.Stored new) = record s { kept = with_blocks s.kept pairs; hot = with_hot s.hot pairs }
 after_put s pairs _ = s
-
-abbrev pub after_close : State → ℕ → CloseReply → State
-after_close s v CloseReply.Closed = record s { views = set.remove s.views v }
-after_close s v CloseReply.BadView = s
 
 abbrev pub after_head : State → List (List ℕ) → HeadReply → State
 after_head s cids (HeadReply.Set height) = record s { head = Some (height, cids) }
@@ -222,9 +192,9 @@ after_head s cids _ = s
 
 -- the state after the answer
 abbrev pub After : State → Call → Answer → State
-After s Call.OpenView (Answer.View r) = after_view s r
+After s Call.OpenView (Answer.View (ViewReply.Opened n)) = record s { views = set.insert s.views n }
 After s (Call.Put v pairs) (Answer.Put r) = after_put s pairs r
-After s (Call.CloseView v) (Answer.Close r) = after_close s v r
+After s (Call.CloseView v) (Answer.Close CloseReply.Closed) = record s { views = set.remove s.views v }
 After s (Call.SetHead cids) (Answer.Head r) = after_head s cids r
 After s _ _ = s
 
@@ -252,3 +222,13 @@ abbrev pub is_log_full : Answer → Bool
 is_log_full (Answer.Put (PutReply.LogFull file need room)) = true
 is_log_full (Answer.Head (HeadReply.LogFull file need room)) = true
 is_log_full _ = false
+
+-- the block of the pair at an index, if one is given
+abbrev pub block_at : List (List ℕ × List ℕ) → Option ℕ → Option (List ℕ)
+block_at pairs None = None
+block_at pairs (Some i) = option_map (λ p. p.1) (slice_get pairs i)
+
+-- where the blocks of a parcel are, the index of the first pair of each CID that is no identity CID: each kept block is that of its pair
+pub record ArePlaces (pairs : List (List ℕ × List ℕ)) (kept : Kept) (places : BTreeMap (List ℕ) ℕ) : Type 0 where
+  pub blocks : (cid : List ℕ) → map.get kept cid ≡ block_at pairs (get (slice_cmp nat_cmp) places cid)
+  pub within : (cid : List ℕ) (i : ℕ) → get (slice_cmp nat_cmp) places cid ≡ Some i → i < length pairs

@@ -1,7 +1,5 @@
 pub mod State
 pub mod Head
-pub mod Proper
 pub mod Lawful
 pub mod History
 pub mod Met
-pub mod Places

@@ -1,8 +1,5 @@
 -- What a search for reached CIDs has met, and which of these wait to be read.
-use Rattle.std.specs.Prelude.{◌≡◌, ◌⊎◌, ◌↔◌, ℕ, ◌+◌, Bool, true, List, [], ◌∷◌, ◌++◌, length, Contains}
-use Rattle.std.specs.Ordering.{nat_cmp}
-use Rattle.std.specs.Cmp.Lexicographic.{slice_cmp}
-use Rattle.std.specs.BTreeSet.{contains}
+use Rattle.std.specs.{Prelude.{◌≡◌, ◌⊎◌, ◌↔◌, ℕ, ◌+◌, Bool, true, List, [], ◌∷◌, ◌++◌, length, Contains}, Ordering.nat_cmp, Cmp.Lexicographic.slice_cmp, BTreeSet.contains}
 use Rattle.ss_cid.specs.Maps.{Kept}
 use Rattle.ss_chain.specs.Reach.{LeadsTo}
 use Rattle.ss_model.specs.declared.met.Met.{Met}

@@ -1,7 +1,6 @@
 -- The state of the store, as its clients see it; docs/MODEL.md says what each field is. What holds between the fields is a law of
--- histories (`Proper`), and no promise of the type.
-use Rattle.std.specs.Prelude.{ℕ, List, Option, None}
-use Rattle.std.specs.Ordering.{nat_cmp}
+-- histories (`IsProper`), and no promise of the type.
+use Rattle.std.specs.{Prelude.{ℕ, List, Option, None}, Ordering.nat_cmp}
 use Rattle.std.specs.FinMap as map
 use Rattle.std.specs.FinSet as set
 use Rattle.ss_records.specs.declared.record.Config.{Config as Settings}

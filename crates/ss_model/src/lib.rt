@@ -38,6 +38,3 @@ pub const PUT_BYTES: u64 = 15_728_640;
 
 /// The most bytes of a CID and its block together.
 pub const BLOCK_BYTES: usize = 8_388_608;
-
-#[cfg(test)]
-mod tests;

@@ -10,7 +10,7 @@ ghost use Rattle.ss_chain.specs.Fetch.{fetched};
 ghost use Rattle.ss_chain.specs.Parcel.{kept_of};
 ghost use Rattle.ss_chain.specs.Reach.{Reach};
 ghost use Rattle.ss_model.specs.Met.{was_met, Reads};
-ghost use Rattle.ss_model.specs.Places.{ArePlaces};
+ghost use Rattle.ss_model.specs.Lawful.{ArePlaces};
 
 use crate::met::Met;
 use ss_cid::{Cid, Cids, NoMemory, Parcel};

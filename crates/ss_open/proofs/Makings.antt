@@ -9,8 +9,7 @@ use Rattle.ss_disk.proofs.Goes.{goes_on}
 use Rattle.ss_disk.proofs.Moments as moments
 use Rattle.ss_gatelog.specs.Log.{Spells, HasList}
 use Rattle.ss_gatelog.specs.GateLog.{Log, IsSure}
-use Rattle.ss_open.specs.Making.{KeepsFirst, EmptiesFirst}
-use Rattle.ss_open.specs.Opening.{AreEmptyBeside}
+use Rattle.ss_open.specs.Opening.{KeepsFirst, EmptiesFirst, AreEmptyBeside}
 
 -- what holds where a call succeeds
 pub when_ok : {T E : Type 0} (r : Result T E) (P : Type 0) → is_err r ≡ false → OnOk r P → P

@@ -11,7 +11,7 @@ use Rattle.std.specs.FinSet.{contains-from_list, contains-empty}
 use Rattle.ss_disk.specs.declared.disk.Disk.{Ghosts}
 use Rattle.ss_disk.specs.Disk.{Same}
 use Rattle.ss_disk.specs.Calls.{Goes}
-use Rattle.ss_gatelog.specs.Faults.{CountsFault}
+use Rattle.ss_gatelog.specs.GateLog.{CountsFault}
 use Rattle.ss_gatelog.specs.Log.{spelled}
 use Rattle.ss_records.specs.declared.record.Config.{Config as Settings}
 use Rattle.ss_records.specs.declared.record.Record.{Record}
@@ -29,9 +29,7 @@ use Rattle.ss_core.specs.declared.split_core.SplitCore.{SplitCore}
 use Rattle.ss_core.specs.StandsFor.{IsLeftBy, HasState, StandsFor}
 use Rattle.ss_core.proofs.Images.{end_of}
 use Rattle.ss_core.proofs.Settling.{keeps_sure}
-use Rattle.ss_open.specs.Fault.{IsOpeningFault, open_fault}
-use Rattle.ss_open.specs.Making.{first_records}
-use Rattle.ss_open.specs.Opening.{HasTooMany, IsDamagedStore, IsOpenFault, Opens}
+use Rattle.ss_open.specs.Opening.{IsOpeningFault, open_fault, HasTooMany, IsDamagedStore, IsOpenFault, Opens, first_records}
 use Rattle.ss_open.specs.declared.fault.OpenFault.{OpenFault}
 use Rattle.ss_open.specs.declared.fault.OpenFault.TheVariants as opening
 

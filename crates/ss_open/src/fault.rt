@@ -1,5 +1,5 @@
 ghost use Rattle.std.specs.Prelude.{◌≡◌};
-ghost use Rattle.ss_open.specs.Fault.{IsOpeningFault, open_fault};
+ghost use Rattle.ss_open.specs.Opening.{IsOpeningFault, open_fault};
 
 use ss_store::StoreFault;
 

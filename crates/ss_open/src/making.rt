@@ -2,12 +2,11 @@ ghost use Rattle.std.specs.Prelude.{◌≡◌, ◌⊎◌, ◌^◌, ◌≤◌, []
 ghost use Rattle.std.specs.FinMap as finite_map;
 ghost use Rattle.ss_disk.specs.Disk.{Files, Same, HasCause};
 ghost use Rattle.ss_disk.specs.Calls.{Goes};
-ghost use Rattle.ss_gatelog.specs.Faults.{CountsFault};
+ghost use Rattle.ss_gatelog.specs.GateLog.{CountsFault};
 ghost use Rattle.ss_records.specs.Record.{SettingsFit};
 ghost use Rattle.ss_hot.specs.File.{HasSettings};
 ghost use Rattle.ss_hot.specs.Store.{Keeps, IsKnown};
-ghost use Rattle.ss_open.specs.Opening.{HasNoStore, AreEmptyBeside, IsNewStore, IsInitFault, Made, Inits};
-ghost use Rattle.ss_open.specs.Making.{KeepsFirst, EmptiesFirst, first_records};
+ghost use Rattle.ss_open.specs.Opening.{HasNoStore, AreEmptyBeside, IsNewStore, IsInitFault, Made, Inits, KeepsFirst, EmptiesFirst, first_records};
 
 use crate::OpenFault;
 use crate::fault::open_fault;

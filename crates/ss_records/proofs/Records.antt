@@ -5,10 +5,9 @@ use Rattle.std.proofs.lemmas.Bool.{eqb-true}
 use Rattle.ss_records.specs.declared.record.Record.{Record}
 use Rattle.ss_records.specs.declared.record.Record.TheVariants.{Config, Generation, Put, Dropped, Head, Base, Start, Cold, Sealed, Copied, Purged}
 use Rattle.ss_records.specs.Record.{spelling, Fits, IsValue}
-use Rattle.ss_records.specs.Fields.{record_of, read_record, placed}
+use Rattle.ss_records.specs.Fields.{record_of, read_record, placed, Answers}
 use Rattle.std.specs.Prelude.{IfOk}
 use Rattle.ss_records.specs.declared.fault.RecordFault.{RecordFault}
-use Rattle.ss_records.specs.Outcome.{Answers}
 use Rattle.ss_records.proofs.Parts.{IsBytes}
 use Rattle.ss_records.proofs.Spelled.{IsSpelled, config_takes, config_again, number_takes, number_again, base_takes, base_again, stored_takes, stored_again, put_takes, put_again, head_takes, head_again, start_takes, start_again}
 

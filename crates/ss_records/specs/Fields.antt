@@ -1,13 +1,30 @@
 -- The fields of a record's body from left to right, and the first that does not fit. A field is its value
 -- and the bytes behind it; or, where there is a fault, how many bytes are left from it on: all from the
 -- field on where it does not fit, and none where the body ends early or has bytes too many.
-use Rattle.std.specs.Prelude.{ℕ, zero, suc, ◌-◌, ◌^◌, nat_lt, ◌==◌, ◌||◌, if◌then◌else◌, List, [], ◌∷◌, length, take, drop, Result, Ok, Err}
-use Rattle.std.specs.Int.{Width, w8, w16, w32, w64, byte_len, from_be_bytes}
-use Rattle.ss_cid.specs.Cid.{cid_len, hash_of}
-use Rattle.ss_cid.specs.Steps.{◌>>=◌}
-use Rattle.ss_cid.specs.declared.fault.CidFault.{CidFault}
-use Rattle.ss_records.specs.declared.fields.Allowed.{Allowed}
-use Rattle.ss_records.specs.declared.record.{Mode.Mode, Record.Record}
+use Rattle.std.specs.{Prelude.{ℕ, zero, suc, ◌-◌, ◌^◌, nat_lt, ◌==◌, ◌||◌, if◌then◌else◌, List, [], ◌∷◌, length, take, drop, Result, Ok, Err, ◌≡◌}, Int.{Width, w8, w16, w32, w64, byte_len, from_be_bytes}}
+use Rattle.ss_cid.specs.{Cid.{cid_len, hash_of}, declared.fault.CidFault.CidFault, Steps.{◌>>=◌}}
+use Rattle.ss_records.specs.{declared.fields.Allowed.Allowed, declared.record.Mode.Mode, declared.record.Record.Record, declared.fault.Fault.Fault, declared.fault.Misfit.Misfit, declared.fault.RecordFault.RecordFault}
+
+-- a reader's answer, seen by `view`, is what the bytes say
+abbrev pub Reads : {X Y : Type 0} → (X → Y) → Result X Misfit → Result Y ℕ → Type 0
+Reads view (Ok x) read = read ≡ Ok (view x)
+Reads view (Err e) read = read ≡ Err e.left
+
+-- a reader met this fault of the bytes, or found no memory
+abbrev pub Fails : {Y : Type 0} → Fault → Result Y ℕ → Type 0
+Fails (Fault.Bad e) read = read ≡ Err e.left
+Fails Fault.NoMemory read = Unit {0}
+
+-- a reader's answer, seen by `view`, is what the bytes say, unless it found no memory
+abbrev pub Gives : {X Y : Type 0} → (X → Y) → Result X Fault → Result Y ℕ → Type 0
+Gives view (Ok x) read = read ≡ Ok (view x)
+Gives view (Err e) read = Fails e read
+
+-- an answer is what the bytes say, or the place of their fault, unless memory ran out
+abbrev pub Answers : {X : Type 0} → Result X RecordFault → Result X ℕ → Type 0
+Answers (Ok x) read = read ≡ Ok x
+Answers (Err (RecordFault.BadRecord at)) read = read ≡ Err at
+Answers (Err RecordFault.NoMemory) read = Unit {0}
 
 -- so many bytes
 unfoldable pub bytes_at : ℕ → List ℕ → Result (List ℕ × List ℕ) ℕ

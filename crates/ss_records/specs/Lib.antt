@@ -1,5 +1,4 @@
 pub mod Record
 pub mod Fields
-pub mod Outcome
 pub mod Places
 pub use Rattle.ss_cid.specs.Cid

@@ -1,13 +1,8 @@
 -- Where the blocks of a Put lie in its body.
 use Rattle.std.specs.Prelude.{◌≡◌, ℕ, zero, suc, ◌+◌, ◌-◌, List, [], ◌∷◌, ◌++◌, length, map, take, drop, Result, Ok, Err}
-use Rattle.ss_records.specs.declared.fault.RecordFault.{RecordFault}
-use Rattle.ss_records.specs.declared.places.{BlockPlace.BlockPlace, PutBlocks.PutBlocks}
-use Rattle.ss_records.specs.declared.record.Record.{Record}
-use Rattle.ss_records.specs.Record.{block}
-use Rattle.ss_records.specs.Fields.{block_at}
+use Rattle.ss_records.specs.{declared.fault.RecordFault.RecordFault, declared.places.{BlockPlace.BlockPlace, PutBlocks.PutBlocks}, declared.record.Record.Record, Record.block, Fields.block_at}
 
--- the places of blocks one after another, the first of which begins at a place of the body: a block's bytes
--- stand behind its CID and the four bytes of their length
+-- the places of blocks in a row, the first of which begins here in the body: a block stands behind its CID and four bytes of length
 abbrev pub places : ℕ → List (List ℕ × List ℕ) → List BlockPlace
 places at [] = []
 places at (b ∷ bs) = record { cid = b.0; at = at + length b.0 + 4; len = length b.1 } ∷ places (at + length (block b)) bs

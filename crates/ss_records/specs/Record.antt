@@ -1,8 +1,5 @@
--- The records of the logs, and the one spelling of each in bytes (format 1, which is this project's own).
--- Numbers of several bytes are big-endian.
-use Rattle.std.specs.Prelude.{◌≢◌, ℕ, ◌+◌, ◌^◌, ◌<◌, ◌≤◌, List, [], ◌∷◌, ◌++◌, length, All}
-use Rattle.std.specs.List.{flat_map}
-use Rattle.std.specs.Int.{Width, w8, w16, w32, w64, to_be_bytes}
+-- The records of the logs and the one spelling of each in bytes (format 1, this project's own), with big-endian numbers.
+use Rattle.std.specs.{Prelude.{◌≢◌, ℕ, ◌+◌, ◌^◌, ◌<◌, ◌≤◌, List, [], ◌∷◌, ◌++◌, length, All}, List.flat_map, Int.{Width, w8, w16, w32, w64, to_be_bytes}}
 use Rattle.ss_cid.specs.Cid.{IsCid, hash_of}
 use Rattle.ss_records.specs.declared.record.{Mode.Mode, Config.Config as Settings, Record.Record}
 

@@ -2,8 +2,7 @@
 
 ghost use Rattle.std.specs.Prelude.{◌≡◌, ◌≤◌, ◌+◌, length, take, drop, Err, IfOk};
 ghost use Rattle.std.specs.Int.{w8, w16, w32, w64};
-ghost use Rattle.ss_records.specs.Fields.{allowed_cid_at, block_at, bytes_at, number_at, cid_at, cid_taken, ended, stored_cid_at};
-ghost use Rattle.ss_records.specs.Outcome.{Reads};
+ghost use Rattle.ss_records.specs.Fields.{allowed_cid_at, block_at, bytes_at, number_at, cid_at, cid_taken, ended, stored_cid_at, Reads};
 
 use crate::fault::Misfit;
 use ss_cid::{Cid, CidFault, HashCode};

@@ -21,8 +21,6 @@ pub mod laws;
 mod places;
 mod reading;
 mod record;
-#[cfg(test)]
-mod tests;
 mod writing;
 
 pub use fault::RecordFault;

@@ -2,8 +2,7 @@ ghost use Rattle.std.specs.Prelude.{◌≡◌, Ok, IfOk};
 ghost use Rattle.std.specs.Int.{w8, w16};
 ghost use Rattle.ss_records.specs.declared.record.Record.{Record};
 ghost use Rattle.ss_records.specs.Record.{spelling, Fits, IsValue};
-ghost use Rattle.ss_records.specs.Fields.{allowed_cid_at, base_of, block_at, cid_at, config_of, head_of, items_of, list_of, number_of, read_record, record_of, start_of, stored_cid_at};
-ghost use Rattle.ss_records.specs.Outcome.{Answers, Gives, Reads};
+ghost use Rattle.ss_records.specs.Fields.{allowed_cid_at, base_of, block_at, cid_at, config_of, head_of, items_of, list_of, number_of, read_record, record_of, start_of, stored_cid_at, Answers, Gives, Reads};
 
 use crate::fault::{Fault, Misfit, RecordFault};
 use crate::fields::{

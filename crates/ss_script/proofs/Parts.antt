@@ -4,11 +4,10 @@ use Rattle.std.specs.Prelude.{Result, Ok, Err, is_err, true}
 use Rattle.std.proofs.lemmas.List.{drop_more, take-append-drop}
 use Rattle.std.proofs.lemmas.Grind.{flat_map-append}
 use Rattle.hex.specs.Hex.{encode_with, encode_lower, lower_digits}
-use Rattle.ss_io.specs.Causes.{HasCause}
+use Rattle.ss_io.specs.Streams.{HasCause}
 use Rattle.ss_io.specs.declared.sink.Sink.{Ghosts}
 use Rattle.ss_io.proofs.Told.{AppendsFront-more, PutAppends-append}
-use Rattle.ss_script.specs.Text.{number_text, numbers_text}
-use Rattle.ss_script.specs.Writing.{Writes}
+use Rattle.ss_script.specs.Text.{number_text, numbers_text, Writes}
 
 module _ {K E : Type 0} {sink : Ghosts K} where
   -- a part was written, and then the next, or a prefix of it

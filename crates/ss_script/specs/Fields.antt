@@ -1,15 +1,6 @@
 -- The fields of a script line, none of which is empty; docs/FORMATS.md has the form of each.
-use Rattle.std.specs.Prelude.{ℕ, ◌+◌, ◌-◌, ◌^◌, ◌==◌, ◌&&◌, ◌||◌, nat_lt, nat_le, Bool, not, List, [], ◌∷◌, if◌then◌else◌, length, slice_index, codes, Option, Some, None, Result, Ok, Err}
-use Rattle.std.specs.List.{slice_split, list_all}
-use Rattle.std.specs.Option.{option_and_then, ok_or}
-use Rattle.std.specs.Result.{result_ok}
-use Rattle.std.specs.Char.{is_ascii_digit}
-use Rattle.std.specs.Str.{bytes_eq}
-use Rattle.std.specs.Str.Parse.{digits_value}
-use Rattle.ss_cid.specs.declared.fault.CidFault.{CidFault}
-use Rattle.ss_cid.specs.Cid.{cid_at}
-use Rattle.ss_cid.specs.Steps.{◌>>=◌}
-use Rattle.ss_cid.specs.Text.{cid_from_text}
+use Rattle.std.specs.{Prelude.{ℕ, ◌+◌, ◌-◌, ◌^◌, ◌==◌, ◌&&◌, ◌||◌, nat_lt, nat_le, Bool, not, List, [], ◌∷◌, if◌then◌else◌, length, slice_index, codes, Option, Some, None, Result, Ok, Err}, List.{slice_split, list_all}, Option.{option_and_then, ok_or}, Result.result_ok, Char.is_ascii_digit, Str.bytes_eq, Str.Parse.digits_value}
+use Rattle.ss_cid.specs.{declared.fault.CidFault.CidFault, Cid.cid_at, Text.cid_from_text, Steps.{◌>>=◌}}
 use Rattle.hex.specs.Hex.{decode_of}
 use Rattle.ss_script.specs.declared.fault.ScriptKind.{ScriptKind}
 

@@ -4,6 +4,3 @@ pub mod Fields
 pub mod Script
 pub mod Text
 pub mod Views
-pub mod Writing
-pub use Rattle.ss_io.specs.Causes
-pub use Rattle.ss_io.specs.Written

@@ -1,16 +1,8 @@
 -- The script of `trace`; docs/FORMATS.md has the form of each line. Fields are judged from left to right, and a bad line is reported
 -- for the first that is at fault, whether it is missing, empty, one too many or not of its form.
-use Rattle.std.specs.Prelude.{ℕ, ◌+◌, ◌==◌, ◌||◌, nat_lt, Bool, List, [], ◌∷◌, ◌++◌, if◌then◌else◌, length, slice_index, codes, Option, Some, None, Result, Ok, Err}
-use Rattle.std.specs.List.{slice_split}
-use Rattle.std.specs.Option.{option_to_list}
-use Rattle.std.specs.Str.{bytes_eq}
-use Rattle.std.specs.Io.BufRead.{strip_last}
+use Rattle.std.specs.{Prelude.{ℕ, ◌+◌, ◌==◌, ◌||◌, nat_lt, Bool, List, [], ◌∷◌, ◌++◌, if◌then◌else◌, length, slice_index, codes, Option, Some, None, Result, Ok, Err}, List.slice_split, Option.option_to_list, Str.bytes_eq, Io.BufRead.strip_last}
 use Rattle.ss_cid.specs.Steps.{◌>>=◌}
-use Rattle.ss_script.specs.declared.TheConstants.{LINES}
-use Rattle.ss_script.specs.declared.call.ScriptCall.{ScriptCall}
-use Rattle.ss_script.specs.declared.line.Line.{Line}
-use Rattle.ss_script.specs.declared.fault.{ScriptKind.ScriptKind, ScriptFault.ScriptFault}
-use Rattle.ss_script.specs.Fields.{fields_of, field_by, first_by, ended, client_of, number_of, cid_of, data_of}
+use Rattle.ss_script.specs.{declared.TheConstants.LINES, declared.call.ScriptCall.ScriptCall, declared.line.Line.Line, declared.fault.{ScriptKind.ScriptKind, ScriptFault.ScriptFault}, Fields.{fields_of, field_by, first_by, ended, client_of, number_of, cid_of, data_of}}
 
 -- the lines of a text; after the LF that ends it there is none
 abbrev pub lines_of : List ℕ → List (List ℕ)

@@ -1,12 +1,15 @@
--- The printed text of a history, one line an entry, as docs/FORMATS.md has it.
-use Rattle.std.specs.Prelude.{ℕ, ◌+◌, ◌==◌, Bool, List, [], ◌∷◌, ◌++◌, if◌then◌else◌, Option, None, Some, codes, length}
-use Rattle.std.specs.List.{flat_map}
-use Rattle.std.specs.Fmt.{decimal}
+-- The printed text of a history, one line an entry, as docs/FORMATS.md has it, and what writing a text leaves in a sink.
+use Rattle.std.specs.{Prelude.{ℕ, ◌+◌, ◌==◌, Bool, List, [], ◌∷◌, ◌++◌, if◌then◌else◌, Option, None, Some, codes, length, Result}, List.flat_map, Fmt.decimal}
 use Rattle.hex.specs.Hex.{encode_lower}
 use Rattle.ss_cbor.specs.declared.fault.CborKind.{CborKind}
-use Rattle.ss_model.specs.declared.TheConstants.{NO_VIEW, COMPACTOR}
-use Rattle.ss_model.specs.declared.call.{Call.Call, Answer.Answer, Entry.Entry, ViewReply.ViewReply, PutReply.PutReply, GetReply.GetReply, CloseReply.CloseReply, HasReply.HasReply, SizeReply.SizeReply, HeadReply.HeadReply, Info.Info}
-use Rattle.ss_records.specs.declared.record.{Config.Config, Mode.Mode}
+use Rattle.ss_model.specs.{declared.TheConstants.{NO_VIEW, COMPACTOR}, declared.call.Call.Call, declared.call.Answer.Answer, declared.call.Entry.Entry, declared.call.ViewReply.ViewReply, declared.call.PutReply.PutReply, declared.call.GetReply.GetReply, declared.call.CloseReply.CloseReply, declared.call.HasReply.HasReply, declared.call.SizeReply.SizeReply, declared.call.HeadReply.HeadReply, declared.call.Info.Info}
+use Rattle.ss_records.specs.{declared.record.Config.Config, declared.record.Mode.Mode}
+use Rattle.ss_io.specs.{Streams.{HasCause, PutAppends}, declared.sink.Sink.Ghosts}
+
+-- All of the text is written, or, where the sink failed, a prefix of it; and the sink's count of faults rose exactly where it failed.
+pub record Writes {K E : Type 0} (sink : Ghosts K) (old new : K) (result : Result (Unit {0}) E) (text : List ℕ) : Type 0 where
+  pub bytes : PutAppends (sink.written old) (sink.written new) result text
+  pub cause : HasCause (sink.faults old) (sink.faults new) result
 
 -- a number after a space
 abbrev pub number_text : ℕ → List ℕ

@@ -2,11 +2,8 @@
 -- numbers of a client's views are a list: an `open` adds one at its end, `NO_VIEW` where it was refused, and a `close` that was
 -- answered so puts `NO_VIEW` in the place of the one that it closed. A client's lines change its own list alone.
 use Rattle.std.specs.Prelude.{ℕ, List, [], ◌∷◌, ◌++◌, Option, Some, None, replicate, slice_index_or, slice_set}
-use Rattle.ss_model.specs.declared.TheConstants.{NO_VIEW}
-use Rattle.ss_model.specs.declared.call.{Call.Call, Answer.Answer, ViewReply.ViewReply, CloseReply.CloseReply}
-use Rattle.ss_script.specs.declared.TheConstants.{CLIENTS}
-use Rattle.ss_script.specs.declared.call.ScriptCall.{ScriptCall}
-use Rattle.ss_script.specs.declared.line.Line.{Line}
+use Rattle.ss_model.specs.{declared.TheConstants.NO_VIEW, declared.call.{Call.Call, Answer.Answer, ViewReply.ViewReply, CloseReply.CloseReply}}
+use Rattle.ss_script.specs.{declared.TheConstants.CLIENTS, declared.call.ScriptCall.ScriptCall, declared.line.Line.Line}
 
 -- the views of all clients before the first line, by the clients' numbers
 abbrev pub no_views : List (List ℕ)

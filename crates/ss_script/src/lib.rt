@@ -16,8 +16,6 @@ mod line;
 mod numbers;
 mod pieces;
 mod script;
-#[cfg(test)]
-mod tests;
 mod text;
 mod views;
 

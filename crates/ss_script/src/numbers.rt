@@ -2,8 +2,7 @@
 
 ghost use Rattle.std.specs.Prelude.{◌++◌};
 ghost use Rattle.std.specs.Fmt.{decimal};
-ghost use Rattle.ss_script.specs.Writing.{Writes};
-ghost use Rattle.ss_script.specs.Text.{number_text, numbers_text};
+ghost use Rattle.ss_script.specs.Text.{Writes, number_text, numbers_text};
 
 use itoa::Buffer;
 use ss_io::{Failed, Sink};

@@ -2,8 +2,7 @@
 
 ghost use Rattle.std.specs.Prelude.{◌≡◌, ◌≤◌, ◌++◌, IfErr, codes, length};
 ghost use Rattle.hex.specs.Hex.{encode_lower};
-ghost use Rattle.ss_script.specs.Writing.{Writes};
-ghost use Rattle.ss_script.specs.Text.{named_text, bytes_text, view_text, client_text, call_text, view_reply_text, close_reply_text, item_fault_number, put_reply_text, get_reply_text, has_reply_text, size_reply_text, head_reply_text, height_text, flag_number, info_text, mode_text, settings_text, answer_text, entry_text};
+ghost use Rattle.ss_script.specs.Text.{Writes, named_text, bytes_text, view_text, client_text, call_text, view_reply_text, close_reply_text, item_fault_number, put_reply_text, get_reply_text, has_reply_text, size_reply_text, head_reply_text, height_text, flag_number, info_text, mode_text, settings_text, answer_text, entry_text};
 
 use crate::numbers::{put_decimal, put_number, put_numbers};
 use ss_cbor::CborKind;

@@ -9,8 +9,7 @@ use Rattle.ss_gatelog.specs.declared.fault.LogFault.{LogFault as FaultOfLog}
 use Rattle.ss_gatelog.specs.declared.fault.LogFault.TheVariants as log
 use Rattle.ss_gatelog.specs.GateLog.{Log}
 use Rattle.ss_store.specs.declared.fault.StoreFault.TheVariants.{DiskFault}
-use Rattle.ss_store.specs.Faults.{of_log}
-use Rattle.ss_store.specs.Append.{Appends}
+use Rattle.ss_store.specs.Append.{of_log, Appends}
 
 module _ {D : Type 0} (disk : Ghosts D) (was now : D) (old new : Log) (need : ℕ) (err : new ≡ record old { unsure = new.unsure }) (known : new.end + 1 ≤ disk.known now new.file) (touches : Touches disk old.file was now) where
   abbrev room : ℕ

@@ -8,7 +8,7 @@ use Rattle.std.specs.declared.cmp.Ordering.TheVariants.{Less, Equal, Greater}
 use Rattle.std.specs.Cmp.Lexicographic.{slice_cmp, nat_list_cmp_total}
 use Rattle.std.specs.FinMap as finite_map
 use Rattle.std.proofs.lemmas.List.Elements.{All-head, All-tail}
-use Rattle.ss_store.specs.Index.{CidMap, with_pairs, without_cids}
+use Rattle.ss_store.specs.Places.{CidMap, with_pairs, without_cids}
 
 abbrev same_cid : List ℕ → List ℕ → Bool
 same_cid = eq_by_cmp (slice_cmp nat_cmp)

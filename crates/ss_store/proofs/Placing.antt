@@ -14,8 +14,7 @@ use Rattle.ss_records.specs.Record.{block, number, spelling}
 use Rattle.ss_records.specs.Places.{places}
 use Rattle.ss_records.proofs.Frames.{flat_map_next}
 use Rattle.ss_store.specs.declared.place.Place.{Place}
-use Rattle.ss_store.specs.Index.{CidMap, with_pairs, without_cids}
-use Rattle.ss_store.specs.Places.{placed}
+use Rattle.ss_store.specs.Places.{CidMap, with_pairs, without_cids, placed}
 use Rattle.ss_store.proofs.Pairs.{with_pairs-push, without_cids-push, without_with}
 
 length-block : (b : List ℕ × List ℕ) → length (block b) ≡ length b.0 + 4 + length b.1

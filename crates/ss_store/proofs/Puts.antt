@@ -14,8 +14,7 @@ use Rattle.ss_records.specs.Places.{IsPut, ArePlaces, places, places_of}
 use Rattle.ss_records.proofs.Numbers.{length-number, wide16, wide32}
 use Rattle.std.specs.Int.{w16, w32}
 use Rattle.ss_store.specs.declared.place.Place.{Place}
-use Rattle.ss_store.specs.Index.{CidMap, with_pairs}
-use Rattle.ss_store.specs.Places.{placed, has_fault, with_places}
+use Rattle.ss_store.specs.Places.{CidMap, with_pairs, placed, has_fault, with_places}
 
 -- a Put's body is of its kind
 pub put_body : (body : List ℕ) (r : Record) (blocks : List (List ℕ × List ℕ)) → body ≡ spelling r → r ≡ Put blocks → IsPut body

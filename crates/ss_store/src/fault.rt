@@ -21,7 +21,7 @@ pub enum StoreFault {
 }
 
 impl StoreFault {
-    ghost use Rattle.ss_store.specs.Faults.{of_log, of_records};
+    ghost use Rattle.ss_store.specs.Append.{of_log, of_records};
 
     /// The fault of a store whose log is in this file.
     pub fn of_log(file: u8, fault: LogFault) -> StoreFault

@@ -23,9 +23,8 @@ pub struct Index {
 
 impl Model for Index {
     ghost use Rattle.std.specs.FinMap as finite_map;
-    ghost use Rattle.ss_store.specs.Index.{CidMap};
+    ghost use Rattle.ss_store.specs.Places.{CidMap, places_code};
     ghost use Rattle.ss_store.specs.declared.place.Place.{Place};
-    ghost use Rattle.ss_store.specs.Codes.{places_code};
 
     ghost Value = { CidMap Place };
 
@@ -38,8 +37,7 @@ impl Index {
     ghost use Rattle.ss_records.specs.declared.record.Record.TheVariants as record_kind;
     ghost use Rattle.ss_records.specs.Record.{spelling, BlockFits};
     ghost use Rattle.ss_records.specs.Places.{places_of, places_left};
-    ghost use Rattle.ss_store.specs.Index.{next_key, with_pairs, without_cids};
-    ghost use Rattle.ss_store.specs.Places.{placed, has_fault, with_places};
+    ghost use Rattle.ss_store.specs.Places.{next_key, with_pairs, without_cids, placed, has_fault, with_places};
 
     /// A map of nothing, which takes no memory.
     pub fn new(alloc: Global) -> Index

@@ -2,8 +2,8 @@
 //!
 //! A store keeps its contents as records in the log of one file, whose number is a parameter here. In memory it has
 //! an [`Index`] from the CIDs of its blocks to their [`Place`]s in a file, so that a block is got by one read. Contracts
-//! see an index as a finite map; how it changes with the blocks of a put and with dropped CIDs is in
-//! `specs/Index.antt`, and where the blocks of a put lie in a file in `specs/Places.antt`.
+//! see an index as a finite map; how it changes with the blocks of a put and with dropped CIDs, and where the blocks of
+//! a put lie in a file, is in `specs/Places.antt`.
 //!
 //! The one contract is that of [`append_record`] (`specs/Append.antt`): a log that was sure has its records, or these
 //! and one more, in each crash image since, whatever the answer, and exactly the longer list after `Ok`.
@@ -15,8 +15,6 @@ mod append;
 mod fault;
 mod index;
 mod place;
-#[cfg(test)]
-mod tests;
 
 pub use append::append_record;
 pub use fault::StoreFault;

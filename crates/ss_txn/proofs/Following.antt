@@ -7,7 +7,7 @@ use Rattle.ss_cid.specs.Maps.{Kept}
 use Rattle.ss_chain.specs.Fetch.{fetched, is_identity, is_known, IsFetched}
 use Rattle.ss_chain.specs.declared.fetched.Fetched.TheVariants.{Found}
 use Rattle.ss_chain.specs.HeaderReading.{header_of}
-use Rattle.ss_chain.specs.Links.{links_in}
+use Rattle.ss_chain.specs.Header.{links_in}
 use Rattle.ss_chain.specs.Follows.{followed}
 use Rattle.ss_txn.specs.Changes.{AreFollowed}
 use Rattle.ss_txn.proofs.Paths.{none-Contains}

@@ -1,13 +1,9 @@
 -- What calls do to the marks, CID by CID.
 use Rattle.std.specs.Prelude.{◌≡◌, ◌≢◌, ◌↔◌, ℕ, ◌≤◌, List, Contains, Option, Some, option_map, Result, Err}
 use Rattle.ss_cid.specs.Maps.{Kept}
-use Rattle.ss_chain.specs.Fetch.{Rose}
-use Rattle.ss_chain.specs.Reach.{LeadsTo, Reach}
-use Rattle.ss_marks.specs.Marks.{Mark, MarkTable, NoneIs, mark_of, row_of, whitened}
-use Rattle.ss_marks.specs.declared.colour.Colour.{Colour}
-use Rattle.ss_txn.specs.declared.scan_reply.ScanReply.{ScanReply}
-use Rattle.ss_txn.specs.Marked.{none_kept, IsNotWhite}
-use Rattle.ss_txn.specs.declared.reading.Unread.{Unread}
+use Rattle.ss_chain.specs.{Fetch.Rose, Reach.{LeadsTo, Reach}}
+use Rattle.ss_marks.specs.{Marks.{Mark, MarkTable, NoneIs, mark_of, row_of, whitened}, declared.colour.Colour.Colour}
+use Rattle.ss_txn.specs.{declared.scan_reply.ScanReply.ScanReply, Marked.{none_kept, IsNotWhite}, declared.reading.Unread.Unread}
 
 -- each CID has the row that it had, or none as before
 abbrev pub KeepsRows : MarkTable → MarkTable → Type 0
@@ -25,8 +21,7 @@ pub record Shades (cid : List ℕ) (old new : MarkTable) : Type 0 where
   pub each : (other : List ℕ) → MayShade (other ≡ cid) (mark_of old other) (mark_of new other)
   pub same : new ≡ record old { marks = new.marks }
 
--- Some CIDs become protected, and nothing else changes: exactly the white rows that they reach by way of identity CIDs
--- become grey.
+-- Some CIDs become protected, and nothing else changes: exactly the white rows that they reach by way of identity CIDs become grey.
 pub record Protects (edge : ℕ) (cids : List (List ℕ)) (old new : MarkTable) : Type 0 where
   pub reached : (cid : List ℕ) → Reach edge none_kept cids cid → IsNotWhite new cid
   pub each : (cid : List ℕ) → MayShade (Reach edge none_kept cids cid) (mark_of old cid) (mark_of new cid)

@@ -2,13 +2,9 @@
 -- transaction between any two calls: tri-colour marking, in which no black block is followed to a white one.
 use Rattle.std.specs.Prelude.{◌≡◌, ℕ, Bool, List, Contains, Some, is_some, ◌≢◌, true, false, [], ◌∷◌, None}
 use Rattle.std.specs.FinMap as finite_map
-use Rattle.ss_cid.specs.Maps.{Kept}
-use Rattle.ss_chain.specs.Reach.{LeadsTo, Reach}
-use Rattle.ss_marks.specs.Marks.{MarkTable, row_of, colour_of, NoneIs}
-use Rattle.ss_cid.specs.Cid.{digest_of}
-use Rattle.ss_chain.specs.Fetch.{is_identity}
-use Rattle.ss_chain.specs.Follows.{followed}
-use Rattle.ss_marks.specs.declared.colour.Colour.{Colour}
+use Rattle.ss_cid.specs.{Maps.Kept, Cid.digest_of}
+use Rattle.ss_chain.specs.{Reach.{LeadsTo, Reach}, Fetch.is_identity, Follows.followed}
+use Rattle.ss_marks.specs.{Marks.{MarkTable, row_of, colour_of, NoneIs}, declared.colour.Colour.Colour}
 
 -- no stored blocks, so that nothing but identity CIDs has a block
 abbrev pub none_kept : Kept
@@ -30,8 +26,7 @@ pub record IsShaded (marks : MarkTable) (cid : List ℕ) : Type 0 where
   pub is : colour_of marks cid ≡ Some colour
   pub not_white : colour ≢ Colour.White
 
--- A stored CID is protected if it is shaded, an identity CID if all that it is followed to is protected, and a CID that
--- is neither is.
+-- A stored CID is protected if it is shaded, an identity CID if all that it is followed to is, and a CID that is neither always.
 pub data ByCases (edge : ℕ) (marks : MarkTable) : List ℕ → Type 0 where
   shaded : {cid : List ℕ} → IsShaded marks cid → ByCases edge marks cid
   identity : {cid : List ℕ} → is_identity cid ≡ true → ((to : List ℕ) → Contains (followed edge cid (digest_of cid)) to → ByCases edge marks to) → ByCases edge marks cid
@@ -47,8 +42,7 @@ HasRowsOf holds marks = (cid : List ℕ) → is_some (row_of marks cid) ≡ hold
 abbrev pub HasRows : Kept → MarkTable → Type 0
 HasRows kept marks = HasRowsOf (finite_map.contains_key kept) marks
 
--- The marks are those of a transaction with this edge, over these kept blocks, from these roots. What clients put or were
--- shown since it began counts among the roots.
+-- The marks of a transaction with this edge, over these kept blocks, from these roots, among them what clients put or were shown since.
 pub record Marked (edge : ℕ) (kept : Kept) (roots : List (List ℕ)) (marks : MarkTable) : Type 0 where
   pub rows : HasRows kept marks
   pub roots_are : (cid : List ℕ) → Contains roots cid → Protected edge marks cid

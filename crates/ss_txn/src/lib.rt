@@ -24,6 +24,3 @@ mod transaction;
 
 pub use scan_reply::ScanReply;
 pub use transaction::Txn;
-
-#[cfg(test)]
-mod tests;

@@ -14,7 +14,7 @@ use ss_model::HeadReply;
 use std::alloc::Global;
 
 impl<D: Disk> SplitCore<D> {
-    ghost use Rattle.ss_gatelog.specs.Faults.{CountsFault};
+    ghost use Rattle.ss_gatelog.specs.GateLog.{CountsFault};
     ghost use Rattle.ss_model.specs.State.{State};
     ghost use Rattle.ss_records.specs.declared.record.Record.TheVariants as record_kind;
     ghost use Rattle.ss_records.specs.Record.{Fits};
@@ -24,7 +24,7 @@ impl<D: Disk> SplitCore<D> {
     ghost use Rattle.ss_model.specs.declared.call.HeadReply.TheVariants as head;
     ghost use Rattle.ss_core.specs.Calls.{Steps, Makes};
     ghost use Rattle.ss_core.specs.Effect.{head_effect};
-    ghost use Rattle.ss_core.specs.Heads.{OnlyReads, IsUnread, IsJudgement, IsJudged};
+    ghost use Rattle.ss_core.specs.Reads.{OnlyReads, IsUnread, IsJudgement, IsJudged};
     ghost use Rattle.ss_core.specs.StandsFor.{StandsFor};
 
     /// Sets a tipset as head, by one record. A log in doubt is settled first, and each block is read, one at a time.

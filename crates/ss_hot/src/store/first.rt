@@ -2,7 +2,7 @@ ghost use Rattle.std.specs.Prelude.{◌≡◌, ◌∷◌, [], false, Err, IsTrue
 ghost use Rattle.std.specs.FinMap as finite_map;
 ghost use Rattle.ss_disk.specs.Disk.{Files};
 ghost use Rattle.ss_disk.specs.Calls.{Touches};
-ghost use Rattle.ss_gatelog.specs.Faults.{CountsFault};
+ghost use Rattle.ss_gatelog.specs.GateLog.{CountsFault};
 ghost use Rattle.ss_records.specs.declared.record.Record.TheVariants as record_kind;
 ghost use Rattle.ss_records.specs.Record.{SettingsFit};
 ghost use Rattle.ss_store.specs.declared.fault.StoreFault.{StoreFault};

@@ -1,8 +1,8 @@
 ghost use Rattle.std.specs.Prelude.{◌≡◌, ◌⊎◌, ◌+◌, ◌^◌, ◌<◌, [], ◌∷◌, ◌++◌, ℕ, List, IsTrue, true, false, length, Err, Ok, None, IfOk, IfSome, OnOk, MatchBool};
 ghost use Rattle.ss_disk.specs.Disk.{Same};
 ghost use Rattle.ss_disk.specs.Calls.{Goes};
-ghost use Rattle.ss_gatelog.specs.Faults.{CountsFault};
-ghost use Rattle.ss_gatelog.specs.Records.{HasLent};
+ghost use Rattle.ss_gatelog.specs.GateLog.{CountsFault};
+ghost use Rattle.ss_gatelog.specs.Gate.{HasLent};
 ghost use Rattle.ss_records.specs.declared.record.Record.{Record};
 ghost use Rattle.ss_records.specs.Record.{SettingsFit};
 ghost use Rattle.ss_store.specs.declared.fault.StoreFault.{StoreFault};

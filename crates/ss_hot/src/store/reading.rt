@@ -2,7 +2,7 @@ ghost use Rattle.std.specs.Prelude.{◌≡◌, ◌⊎◌, ◌^◌, ◌<◌, ℕ,
 ghost use Rattle.std.specs.FinMap as finite_map;
 ghost use Rattle.ss_disk.specs.Disk.{Same};
 ghost use Rattle.ss_disk.specs.Calls.{Goes};
-ghost use Rattle.ss_gatelog.specs.Faults.{CountsFault};
+ghost use Rattle.ss_gatelog.specs.GateLog.{CountsFault};
 ghost use Rattle.ss_records.specs.declared.record.Record.{Record};
 ghost use Rattle.ss_hot.specs.Half.{hot_blocks};
 
@@ -13,7 +13,7 @@ use ss_store::{Place, StoreFault};
 use std::alloc::Global;
 
 impl HotStore {
-    ghost use Rattle.ss_store.specs.Index.{next_key};
+    ghost use Rattle.ss_store.specs.Places.{next_key};
     ghost use Rattle.ss_store.specs.declared.fault.StoreFault.{StoreFault};
     ghost use Rattle.ss_store.specs.declared.fault.StoreFault.TheVariants as fault;
     ghost use Rattle.ss_hot.specs.Store.{Tells, Keeps, IsKnown, LiesIn};

@@ -1,7 +1,6 @@
 ghost use Rattle.std.specs.Prelude.{◌≡◌, ◌+◌, ◌<◌, ◌≤◌, ◌^◌, List, IsTrue, false, length, Err, IsOk, OnOk, OnErr};
 ghost use Rattle.ss_disk.specs.Calls.{Touches, Leaves};
-ghost use Rattle.ss_gatelog.specs.Faults.{CountsFault};
-ghost use Rattle.ss_gatelog.specs.GateLog.{HasEither};
+ghost use Rattle.ss_gatelog.specs.GateLog.{CountsFault, HasEither};
 ghost use Rattle.ss_records.specs.declared.record.Record.{Record};
 ghost use Rattle.ss_records.specs.declared.record.Record.TheVariants as record_kind;
 ghost use Rattle.ss_records.specs.Record.{spelling, Fits};
@@ -18,8 +17,7 @@ use ss_store::{StoreFault, append_record};
 use std::alloc::Global;
 
 impl HotStore {
-    ghost use Rattle.ss_hot.specs.Store.{Keeps, IsKnown, SameButDoubt, AreNotHot};
-    ghost use Rattle.ss_hot.specs.Writes.{KeepsWritten, Writes};
+    ghost use Rattle.ss_hot.specs.Store.{Keeps, IsKnown, SameButDoubt, AreNotHot, KeepsWritten, Writes};
 
     /// Puts blocks, by one record.
     ///

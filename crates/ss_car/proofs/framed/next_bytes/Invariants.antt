@@ -1,6 +1,6 @@
 use Rattle.std.proofs.Common.{◌≡◌, ◌≤◌, ◌-◌, length}
 use Rattle.std.specs.Io.KnownBytes.{Consumes}
-use Rattle.ss_car.specs.Front.{left_of, faults_of, place_of}
+use Rattle.ss_car.specs.Bodies.{left_of, faults_of, place_of}
 use Rattle.ss_car.proofs.framed.next_bytes.Given as goal
 
 abbrev pub invariant-bytes : goal.invariant-bytes

@@ -1,5 +1,5 @@
 use Rattle.std.proofs.Common.{◌≡◌}
-use Rattle.ss_car.specs.Front.{left_of, faults_of, place_of}
+use Rattle.ss_car.specs.Bodies.{left_of, faults_of, place_of}
 use Rattle.ss_car.proofs.Lengths.{LengthSoFar}
 use Rattle.ss_car.proofs.framed.next_length.Given as goal
 

@@ -2,7 +2,7 @@ use Rattle.std.proofs.Common.{◌≡◌, ◌++◌, ◌∙◌, ℕ, List, length,
 use Rattle.std.proofs.Math.Seq.{take-append_seam}
 use Rattle.std.specs.Io.KnownBytes.{Appends}
 use Rattle.ss_cid.specs.Varint.{varint}
-use Rattle.ss_io.specs.Written.{AppendsFront}
+use Rattle.ss_io.specs.Streams.{AppendsFront}
 use Rattle.ss_io.proofs.Told.{PutAppends-before, PutAppends-append}
 use Rattle.ss_car.proofs.writer.put_framed.Goals as goal
 

@@ -1,5 +1,5 @@
 use Rattle.std.proofs.Common.{◌∙◌, ap, sym, arith, List, ℕ, ◌∷◌}
-use Rattle.ss_cbor.specs.Links.{links_left}
+use Rattle.ss_cbor.specs.Reading.{links_left}
 use Rattle.ss_cbor.proofs.LinkRows.{StillLinked-start, StillLinked-after, link_found, found_IsCid, no_more_links}
 use Rattle.ss_cbor.proofs.links.next_link.Goals as goal
 

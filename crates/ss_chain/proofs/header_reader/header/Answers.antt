@@ -1,5 +1,5 @@
 use Rattle.std.proofs.Common.{◌≡◌, rules, option_map, arith}
-use Rattle.ss_chain.specs.Fields.{fields}
+use Rattle.ss_chain.specs.Header.{fields}
 use Rattle.ss_chain.specs.HeaderReading.{header_of}
 use Rattle.ss_chain.proofs.Headers.{header-exact}
 use Rattle.ss_chain.proofs.header_reader.header.Goals as goal

@@ -1,5 +1,5 @@
 use Rattle.std.proofs.Common.{◌≡◌, None, map}
-use Rattle.ss_chain.specs.First.{first_of}
+use Rattle.ss_chain.specs.Steps.{first_of}
 use Rattle.ss_chain.specs.Tipset.{repeat_at}
 use Rattle.ss_chain.proofs.tipset_rule.check_cids.Given as goal
 

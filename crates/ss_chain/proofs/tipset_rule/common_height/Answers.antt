@@ -1,6 +1,6 @@
 use Rattle.std.proofs.Common.{sym, arith}
 use Rattle.std.proofs.lemmas.Result.{err_from_is_err_and}
-use Rattle.ss_chain.specs.Fields.{fields}
+use Rattle.ss_chain.specs.Header.{fields}
 use Rattle.ss_chain.proofs.Tipsets.{wrong-first, wrong-next, height-wrong, height-is, height-none}
 use Rattle.ss_chain.proofs.tipset_rule.common_height.Goals as goal
 

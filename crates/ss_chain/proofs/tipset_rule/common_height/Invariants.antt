@@ -1,6 +1,6 @@
 use Rattle.std.proofs.Common.{◌≡◌, None}
-use Rattle.ss_chain.specs.Fields.{fields}
-use Rattle.ss_chain.specs.First.{first_of}
+use Rattle.ss_chain.specs.Header.{fields}
+use Rattle.ss_chain.specs.Steps.{first_of}
 use Rattle.ss_chain.specs.Tipset.{fault_beside, header_at}
 use Rattle.ss_chain.proofs.tipset_rule.common_height.Given as goal
 

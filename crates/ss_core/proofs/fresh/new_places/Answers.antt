@@ -8,7 +8,7 @@ use Rattle.std.specs.FinSet as finite_set
 use Rattle.std.proofs.lemmas.List.Elements.{All-nil, All-push}
 use Rattle.std.proofs.lemmas.Option.{slice_get_within}
 use Rattle.ss_cid.specs.Cid.{identity_of}
-use Rattle.ss_store.specs.Index.{CidMap}
+use Rattle.ss_store.specs.Places.{CidMap}
 use Rattle.ss_store.specs.declared.place.Place.{Place}
 use Rattle.ss_core.specs.Puts.{AreNoted, cids_of}
 use Rattle.ss_core.proofs.NewPairs.{none_walked, told, or_true, noted_is, identity_told, was_there, old_walked, new_walked, all_walked}

@@ -1,7 +1,7 @@
 use Rattle.std.proofs.Common.{◌≡◌, ◌∙◌, length, get_or, set, sym, ap, subst, arith, length-set}
 use Rattle.std.proofs.lemmas.List.{get_or-set_other}
 use Rattle.ss_marks.specs.declared.row.Row.{Row}
-use Rattle.ss_marks.specs.Rows.{no_row, row_at, IsVacant, IsStack}
+use Rattle.ss_marks.specs.Rows.{no_row, IsVacant, IsStack}
 use Rattle.ss_marks.proofs.Stacks.{popped}
 use Rattle.ss_marks.proofs.room.place_row.Goals as goal
 

@@ -7,8 +7,7 @@ use Rattle.ss_store.specs.declared.place.Place.{Place}
 use Rattle.ss_model.specs.State.{empty_state}
 use Rattle.ss_core.proofs.Settling.{keeps_sure}
 use Rattle.ss_core.specs.StandsFor.{IsLeftBy}
-use Rattle.ss_open.specs.Making.{first_records}
-use Rattle.ss_open.specs.Opening.{IsNewStore}
+use Rattle.ss_open.specs.Opening.{first_records, IsNewStore}
 use Rattle.ss_open.proofs.Openings.{none_left}
 use Rattle.ss_open.proofs.making.init.Goals as goal
 

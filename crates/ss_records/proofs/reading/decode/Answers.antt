@@ -1,6 +1,5 @@
 use Rattle.std.proofs.Common.{ap, subst, ◌∙◌, arith}
-use Rattle.ss_records.specs.Fields.{read_record}
-use Rattle.ss_records.specs.Outcome.{Answers}
+use Rattle.ss_records.specs.Fields.{read_record, Answers}
 use Rattle.ss_records.proofs.Records.{read_again, is_found}
 use Rattle.ss_records.proofs.reading.decode.Goals as goal
 

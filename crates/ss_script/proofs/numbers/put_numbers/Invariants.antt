@@ -1,7 +1,6 @@
 use Rattle.std.proofs.Common.{◌++◌, Ok, take}
 use Rattle.ss_io.specs.declared.failed.Failed.{Failed}
-use Rattle.ss_script.specs.Text.{numbers_text}
-use Rattle.ss_script.specs.Writing.{Writes}
+use Rattle.ss_script.specs.Text.{numbers_text, Writes}
 use Rattle.ss_script.proofs.numbers.put_numbers.Given as goal
 
 abbrev pub invariant-loop-number : goal.invariant-loop-number

@@ -1,7 +1,7 @@
 use Rattle.std.proofs.Common.{◌≡◌, ℕ, List, ◌++◌, Ok, length}
 use Rattle.hex.specs.Hex.{encode_lower}
 use Rattle.ss_io.specs.declared.failed.Failed.{Failed}
-use Rattle.ss_script.specs.Writing.{Writes}
+use Rattle.ss_script.specs.Text.{Writes}
 use Rattle.ss_script.proofs.text.put_digits.Given as goal
 
 abbrev pub invariant-loop-rest : goal.invariant-loop-rest

@@ -3,8 +3,7 @@ use Rattle.std.specs.Prelude.{Err}
 use Rattle.ss_gatelog.specs.GateLog.{Log}
 use Rattle.ss_gatelog.specs.declared.fault.LogFault.{LogFault}
 use Rattle.ss_store.specs.declared.fault.StoreFault.{StoreFault}
-use Rattle.ss_store.specs.Append.{Appends}
-use Rattle.ss_store.specs.Faults.{of_log}
+use Rattle.ss_store.specs.Append.{Appends, of_log}
 use Rattle.ss_store.proofs.Appended.{append_failed}
 use Rattle.ss_store.proofs.append.append_record.Goals as goal
 

@@ -1,7 +1,7 @@
 use Rattle.std.proofs.Common.{length, sym, ap, ◌∙◌, arith}
+use Rattle.std.specs.Option.{option_or}
 use Rattle.std.specs.Prelude.{option_map}
 use Rattle.std.specs.FinMap as finite_map
-use Rattle.ss_chain.specs.Steps.{or_else}
 use Rattle.ss_model.proofs.Kept.{fetched_is as fetched_by}
 use Rattle.ss_core.proofs.Gets.{fetched_is, identity_short, own_len, place_len}
 use Rattle.ss_core.proofs.split_core.SplitCore.block_len.Goals as goal
@@ -11,7 +11,7 @@ overflow_cast-result g c = omega (arith, identity_short c.args.cid.now c.in-Some
 
 pub returns-in-Some-clause-block : goal.returns-in-Some-clause-block
 returns-in-Some-clause-block g c = λ s doubt stands.
-    ap (option_map length) (sym (fetched_by s.kept c.args.cid.now ∙ ap (λ i. or_else i (finite_map.get s.kept c.args.cid.now)) (sym c.in-Some.ensures)))
+    ap (option_map length) (sym (fetched_by s.kept c.args.cid.now ∙ ap (λ i. option_or i (finite_map.get s.kept c.args.cid.now)) (sym c.in-Some.ensures)))
 
 pub returns-in-None-clause-block : goal.returns-in-None-clause-block
 returns-in-None-clause-block g c = λ s doubt stands. c.kept_len.ensures.block s doubt stands ∙ ap (option_map length) (sym (fetched_is s.kept c.args.cid.now c.in-None.ensures))

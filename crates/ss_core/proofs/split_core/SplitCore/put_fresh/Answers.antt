@@ -8,7 +8,7 @@ use Rattle.ss_model.specs.declared.call.Answer.TheVariants as answer
 use Rattle.ss_model.specs.declared.call.PutReply.{PutReply}
 use Rattle.ss_model.specs.declared.call.PutReply.TheVariants as put
 use Rattle.ss_core.specs.Calls.{Steps, Makes}
-use Rattle.ss_core.specs.Fault.{put_fault}
+use Rattle.ss_core.specs.Reads.{put_fault}
 use Rattle.ss_core.specs.StandsFor.{HasEitherState}
 use Rattle.ss_core.proofs.Idle.{stands_still}
 use Rattle.ss_core.proofs.Made.{put_stored, put_failed, put_wanting, counted_kept, rose_on}

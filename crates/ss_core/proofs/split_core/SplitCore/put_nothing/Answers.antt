@@ -5,7 +5,7 @@ use Rattle.ss_model.specs.declared.call.Answer.TheVariants as answer
 use Rattle.ss_model.specs.declared.call.PutReply.{PutReply}
 use Rattle.ss_model.specs.declared.call.PutReply.TheVariants as put
 use Rattle.ss_core.specs.Calls.{Steps, Makes}
-use Rattle.ss_core.specs.Fault.{put_fault}
+use Rattle.ss_core.specs.Reads.{put_fault}
 use Rattle.ss_core.proofs.Made.{put_stored, put_failed, counted_kept}
 use Rattle.ss_core.proofs.PutSteps.{not_settled, none_stored, none_few}
 use Rattle.ss_core.proofs.split_core.SplitCore.put_nothing.Goals as goal

@@ -1,6 +1,6 @@
 use Rattle.std.proofs.Common.{◌≡◌, sym, ap, ◌∙◌, subst, None, arith}
 use Rattle.std.specs.Prelude.{is_some, not}
-use Rattle.ss_chain.specs.First.{first_of}
+use Rattle.ss_chain.specs.Steps.{first_of}
 use Rattle.ss_chain.proofs.Firsts.{first_of-none, first_of-next, first_of-found}
 use Rattle.ss_model.specs.Head.{absent_at}
 use Rattle.ss_model.specs.declared.call.HeadReply.TheVariants as head

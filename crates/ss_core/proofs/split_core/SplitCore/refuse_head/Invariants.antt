@@ -1,5 +1,5 @@
 use Rattle.std.proofs.Common.{◌≡◌, None, Option}
-use Rattle.ss_chain.specs.First.{first_of}
+use Rattle.ss_chain.specs.Steps.{first_of}
 use Rattle.ss_records.specs.declared.record.Record.{Record}
 use Rattle.ss_model.specs.State.{State}
 use Rattle.ss_model.specs.Head.{absent_at}

@@ -1,5 +1,5 @@
 use Rattle.std.proofs.Common.{refl}
-use Rattle.ss_chain.specs.Fields.{fields}
+use Rattle.ss_chain.specs.Header.{fields}
 use Rattle.ss_core.proofs.tipset.FirstHeader.read.Goals as goal
 
 pub returns-clause-height : goal.returns-clause-height

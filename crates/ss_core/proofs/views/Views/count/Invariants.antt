@@ -1,6 +1,6 @@
 use Rattle.std.proofs.Common.{◌≡◌, ◌+◌, ◌≤◌, drop}
 use Rattle.std.specs.FinSet as set
-use Rattle.ss_core.specs.Views.{marked_from}
+use Rattle.ss_core.specs.Calls.{marked_from}
 use Rattle.ss_core.proofs.views.Views.count.Given as goal
 
 abbrev pub invariant-loop-open : goal.invariant-loop-open

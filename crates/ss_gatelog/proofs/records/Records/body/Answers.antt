@@ -1,6 +1,6 @@
 use Rattle.std.proofs.Common.{ℕ, List, ◌∙◌, ap}
 use Rattle.std.specs.Prelude.{slice_range}
-use Rattle.ss_gatelog.specs.Records.{Reader}
+use Rattle.ss_gatelog.specs.Gate.{Reader}
 use Rattle.ss_gatelog.proofs.Pieces.{body_range}
 use Rattle.ss_gatelog.proofs.records.Records.body.Goals as goal
 

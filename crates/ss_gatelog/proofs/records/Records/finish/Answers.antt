@@ -3,7 +3,7 @@ use Rattle.std.specs.Prelude.{IfOk}
 use Rattle.ss_disk.specs.Disk.{Changes, Torn}
 use Rattle.ss_disk.specs.Calls.{Goes}
 use Rattle.ss_gatelog.specs.GateLog.{IsSure}
-use Rattle.ss_gatelog.specs.Records.{Reader}
+use Rattle.ss_gatelog.specs.Gate.{Reader}
 use Rattle.ss_gatelog.proofs.Readers.{lent_none, lent_short}
 use Rattle.ss_gatelog.proofs.records.Records.finish.Goals as goal
 

@@ -4,8 +4,7 @@ use Rattle.std.proofs.lemmas.List.{length-take-le}
 use Rattle.ss_disk.specs.Disk.{Files}
 use Rattle.ss_disk.proofs.Goes.{then_same}
 use Rattle.ss_gatelog.specs.Log.{IsDamaged}
-use Rattle.ss_gatelog.specs.Gate.{IsPiece}
-use Rattle.ss_gatelog.specs.Records.{Reader, HasLent}
+use Rattle.ss_gatelog.specs.Gate.{IsPiece, Reader, HasLent}
 use Rattle.ss_gatelog.proofs.Readers.{lent_on, lent_still, lent_more, lent_none, lends_fault}
 use Rattle.ss_gatelog.proofs.records.Records.next.Goals as goal
 

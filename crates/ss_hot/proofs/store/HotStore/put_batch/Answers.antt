@@ -2,7 +2,7 @@ use Rattle.std.proofs.Common.{◌≡◌, ◌+◌, inl, ℕ, length, refl, map, t
 use Rattle.ss_records.specs.declared.record.Record.TheVariants as record_kind
 use Rattle.ss_records.specs.Record.{spelling}
 use Rattle.ss_store.specs.declared.place.Place.{Place}
-use Rattle.ss_store.specs.Index.{CidMap, without_cids}
+use Rattle.ss_store.specs.Places.{CidMap, without_cids}
 use Rattle.ss_hot.specs.Store.{Hot, AreNotHot}
 use Rattle.ss_hot.proofs.Grown.{length-frame}
 use Rattle.ss_store.proofs.Placing.{undone-all}

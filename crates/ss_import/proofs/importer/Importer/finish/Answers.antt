@@ -1,7 +1,5 @@
 use Rattle.std.proofs.Common.{◌≡◌, Err, refl}
 use Rattle.std.proofs.lemmas.Result.{err_from_is_err_and}
-use Rattle.ss_history.specs.Story.{Story}
-use Rattle.ss_import.specs.Import.{IsImport}
 use Rattle.ss_import.proofs.Ends.{headless, headed, head_refused}
 use Rattle.ss_import.proofs.importer.Importer.finish.Goals as goal
 use Rattle.ss_import.proofs.importer.Importer.finish.Goals.{then-head+in_ok-set, else-head}

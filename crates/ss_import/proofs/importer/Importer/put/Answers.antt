@@ -1,13 +1,12 @@
-use Rattle.std.proofs.Common.{◌≡◌, ◌⊎◌, true≢false, ℕ, ◌+◌, ◌-◌, ◌^◌, ◌≤◌, min, List, [], ◌∷◌, ◌++◌, map, length, All, Ok, Err, refl, sym, ap, ◌∙◌, subst}
+use Rattle.std.proofs.Common.{◌⊎◌, true≢false, ℕ, ◌+◌, ◌-◌, ◌^◌, ◌≤◌, min, List, [], map, length, All, Ok, Err, refl, sym, ap, ◌∙◌, subst}
 use Rattle.std.proofs.lemmas.List.{append-nil}
 use Rattle.ss_model.specs.Lawful.{IsSmall}
 use Rattle.ss_model.specs.declared.TheConstants.{PUT_BYTES}
 use Rattle.ss_core.specs.Puts.{IsDueTo, held_put_bytes}
 use Rattle.ss_import.specs.Import.{pair_of, GoTogether}
-use Rattle.ss_import.specs.Progress.{Putting, Holds}
-use Rattle.ss_import.specs.Steps.{IsDueBlock}
+use Rattle.ss_import.specs.Steps.{Putting, IsDueBlock}
 use Rattle.ss_import.proofs.Fronts.{some_of, pair_at, section_at}
-use Rattle.ss_import.proofs.Putting.{opened, put_of, story_put, stored, refused, ended}
+use Rattle.ss_import.proofs.Putting.{story_put, stored, refused, ended}
 use Rattle.ss_import.proofs.Replies.{group_reply, stored_reply, refused_block, ending_reply, end_counts}
 use Rattle.ss_import.proofs.importer.Importer.put.Goals as goal
 

@@ -1,4 +1,4 @@
-use Rattle.std.proofs.Common.{◌≤◌, ◌^◌, arith}
+use Rattle.std.proofs.Common.{arith}
 use Rattle.ss_import.proofs.Steps.{lent, start_short, begun}
 use Rattle.ss_import.proofs.Ends.{header_refused}
 use Rattle.ss_import.proofs.importer.Importer.read.Goals as goal

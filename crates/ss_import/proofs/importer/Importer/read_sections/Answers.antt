@@ -1,6 +1,6 @@
 use Rattle.std.proofs.Common.{◌≡◌, Ok, Err, ap, ◌∙◌, refl, subst, arith}
 use Rattle.std.proofs.lemmas.Result.{err_from_is_err_and}
-use Rattle.ss_car.specs.Reader.{input_faults}
+use Rattle.ss_car.specs.Bodies.{input_faults}
 use Rattle.ss_import.specs.Steps.{FaultCounts}
 use Rattle.ss_import.proofs.Ends.{fault_counts, early}
 use Rattle.ss_import.proofs.importer.Importer.read_sections.Goals as goal

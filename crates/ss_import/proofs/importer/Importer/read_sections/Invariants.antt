@@ -1,7 +1,6 @@
 use Rattle.std.proofs.Common.{◌≡◌, ℕ, ◌-◌, ◌≤◌, ◌^◌, List, Option, None}
-use Rattle.ss_car.specs.Reader.{taken_of, refusal_of, input_faults, input_place}
-use Rattle.ss_import.specs.Progress.{IsReady}
-use Rattle.ss_import.specs.Steps.{Reading}
+use Rattle.ss_car.specs.Bodies.{taken_of, refusal_of, input_faults, input_place}
+use Rattle.ss_import.specs.Steps.{IsReady, Reading}
 use Rattle.ss_import.proofs.importer.Importer.read_sections.Given as goal
 
 abbrev pub invariant-loop : goal.invariant-loop

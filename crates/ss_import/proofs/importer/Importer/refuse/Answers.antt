@@ -1,4 +1,4 @@
-use Rattle.std.proofs.Common.{◌≡◌, ℕ, inl, inr, sym, ◌∙◌, subst}
+use Rattle.std.proofs.Common.{inl, inr, sym, ◌∙◌, subst}
 use Rattle.ss_import.specs.Steps.{Refused, FaultCounts}
 use Rattle.ss_import.proofs.Steps.{car_counts}
 use Rattle.ss_import.proofs.importer.Importer.refuse.Goals as goal

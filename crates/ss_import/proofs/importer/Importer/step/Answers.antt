@@ -1,7 +1,5 @@
-use Rattle.std.proofs.Common.{◌≡◌, ◌+◌, ◌<◌, ◌≤◌, ◌^◌, Err, arith}
+use Rattle.std.proofs.Common.{◌≡◌, Err, arith}
 use Rattle.std.proofs.lemmas.Result.{err_from_is_err_and}
-use Rattle.ss_car.specs.Reader.{taken_of}
-use Rattle.ss_import.specs.Steps.{FaultCounts}
 use Rattle.ss_import.proofs.Steps.{takes_some, goes_on, take_ended, was_read, last_ended, read_refused}
 use Rattle.ss_import.proofs.importer.Importer.step.Goals as goal
 

@@ -1,11 +1,10 @@
-use Rattle.std.proofs.Common.{◌≡◌, ℕ, List, [], ◌∷◌, ◌++◌, map, length, Ok, Err, refl, sym, ap, ◌∙◌, subst, arith}
+use Rattle.std.proofs.Common.{◌≡◌, List, [], ◌∷◌, ◌++◌, map, refl, sym, ap, ◌∙◌, subst, arith}
 use Rattle.std.proofs.lemmas.Result.{err_from_is_err_and}
 use Rattle.std.proofs.lemmas.List.{map-append}
 use Rattle.ss_car.specs.Car.{Section}
 use Rattle.ss_core.specs.Puts.{held_put_bytes}
-use Rattle.ss_import.specs.declared.fault.ImportFault.TheVariants as import
 use Rattle.ss_import.specs.Import.{pair_of}
-use Rattle.ss_import.specs.Progress.{Putting, PutsEnded, Holds}
+use Rattle.ss_import.specs.Steps.{Putting, Holds}
 use Rattle.ss_import.proofs.Putting.{takes_ended, wanting, one_more, regrouped}
 use Rattle.ss_import.proofs.importer.Importer.take.Goals as goal
 use Rattle.ss_import.proofs.importer.Importer.take.Goals.{then-not-takes+in_ok-put-2, else-not-takes}

@@ -1,4 +1,4 @@
-use Rattle.std.proofs.Common.{◌≡◌, ◌<◌, ◌≤◌, ◌+◌, [], ◌++◌, ◌∙◌, ℕ, ap, sym, subst, take, drop, length, List, arith, length-append, length-drop}
+use Rattle.std.proofs.Common.{◌≡◌, ◌≤◌, ◌+◌, [], ◌++◌, ◌∙◌, ℕ, ap, sym, subst, take, drop, length, List, arith, length-append, length-drop}
 use Rattle.std.specs.Io.KnownBytes.{Consumes, IsAtEnd}
 use Rattle.std.proofs.lemmas.List.{length-take, drop-drop}
 use Rattle.ss_io.specs.Buffered.{before, buffered_of}

@@ -1,9 +1,9 @@
-use Rattle.std.proofs.Common.{◌≡◌, ◌+◌, ◌<◌, length, take, get_or, is_some, sym, ap, subst, ◌∙◌, arith}
+use Rattle.std.proofs.Common.{◌≡◌, ◌+◌, length, take, is_some, sym, ap, subst, ◌∙◌}
 use Rattle.std.proofs.lemmas.List.{get_or_default}
 use Rattle.ss_marks.specs.declared.row.Row.{Row}
 use Rattle.ss_marks.specs.declared.index.Index.{Index}
 use Rattle.ss_marks.specs.Rows.{no_row, row_at}
-use Rattle.ss_marks.specs.Index.{IsChained, Indexes, slot_at}
+use Rattle.ss_marks.specs.Index.{IsChained, Indexes}
 use Rattle.ss_marks.proofs.Rows.{none_from_is_some}
 use Rattle.ss_marks.proofs.Prefixes.{one_left_out, one_vacant}
 use Rattle.ss_marks.proofs.index.Index.build.Goals as goal

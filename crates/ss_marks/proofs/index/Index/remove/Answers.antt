@@ -1,6 +1,6 @@
-use Rattle.std.proofs.Common.{◌≡◌, ◌<◌, Some, length, get_or, sym, ap, subst, ◌∙◌, arith}
+use Rattle.std.proofs.Common.{◌≡◌, Some, length, get_or, sym, ap, subst, ◌∙◌, arith}
 use Rattle.std.proofs.lemmas.List.{get_or_read, get_or_default}
-use Rattle.ss_marks.specs.Rows.{no_row, row_at, slot_of}
+use Rattle.ss_marks.specs.Rows.{no_row, slot_of}
 use Rattle.ss_marks.specs.Index.{IsChained, slot_at, without_row}
 use Rattle.ss_marks.proofs.Rows.{coloured_within, slot_at-live}
 use Rattle.ss_marks.proofs.Joins.{removed, length_heads}

@@ -1,4 +1,4 @@
-use Rattle.std.proofs.Common.{◌≡◌, ◌+◌, ◌-◌, ◌≤◌, Some, length, refl, sym, ap, subst, ◌∙◌, arith}
+use Rattle.std.proofs.Common.{◌≡◌, ◌+◌, ◌-◌, ◌≤◌, length, refl, sym, ap, subst, ◌∙◌, arith}
 use Rattle.std.specs.FinMap as finite_map
 use Rattle.ss_marks.specs.declared.colour.Colour.TheVariants.{White}
 use Rattle.ss_marks.specs.declared.row.Row.{Row}

@@ -1,4 +1,4 @@
-use Rattle.std.proofs.Common.{◌≡◌, ◌<◌, Some, length, refl, sym, ap, subst, ◌∙◌, arith}
+use Rattle.std.proofs.Common.{◌<◌, Some, length, refl, sym, ap, subst, ◌∙◌, arith}
 use Rattle.ss_marks.specs.declared.colour.Colour.TheVariants.{Out, Black}
 use Rattle.ss_marks.specs.Marks.{MarkTable, coloured}
 use Rattle.ss_marks.proofs.Changes.{recoloured_items, recoloured_sound, recoloured_table}

@@ -3,7 +3,7 @@ use Rattle.std.specs.Prelude.{option_map}
 use Rattle.std.proofs.lemmas.List.{get_or_read}
 use Rattle.ss_marks.specs.declared.row.Row.{Row}
 use Rattle.ss_marks.specs.Marks.{Mark, MarkTable, row_of}
-use Rattle.ss_marks.specs.Rows.{no_row, row_at}
+use Rattle.ss_marks.specs.Rows.{no_row}
 use Rattle.ss_marks.proofs.Calls.{row_here, live_here, has_here, mark_of_has}
 use Rattle.ss_marks.proofs.marks.Marks.cid.Goals as goal
 

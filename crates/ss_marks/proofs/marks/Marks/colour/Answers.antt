@@ -5,7 +5,7 @@ use Rattle.std.proofs.lemmas.Bool.{true≢false}
 use Rattle.std.specs.Prelude.{is_some}
 use Rattle.ss_marks.specs.declared.row.Row.{Row}
 use Rattle.ss_marks.specs.Marks.{Mark, MarkTable, colour_of}
-use Rattle.ss_marks.specs.Rows.{no_row, row_at}
+use Rattle.ss_marks.specs.Rows.{no_row}
 use Rattle.ss_marks.proofs.Calls.{row_here, live_here, has_here, mark_of_has}
 use Rattle.ss_marks.proofs.marks.Marks.colour.Goals as goal
 

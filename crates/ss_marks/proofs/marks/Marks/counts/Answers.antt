@@ -1,4 +1,4 @@
-use Rattle.std.proofs.Common.{◌≡◌, ◌∙◌, sym, ap, subst}
+use Rattle.std.proofs.Common.{◌≡◌, ◌∙◌, sym, subst}
 use Rattle.std.specs.Prelude.{◌↔◌}
 use Rattle.ss_marks.specs.declared.colour.Colour.TheVariants.{Grey, Out}
 use Rattle.ss_marks.specs.Marks.{MarkTable, NoneIs}

@@ -1,4 +1,4 @@
-use Rattle.std.proofs.Common.{ℕ, ◌<◌, ◌^◌, refl, arith}
+use Rattle.std.proofs.Common.{◌<◌, ◌^◌, refl, arith}
 use Rattle.ss_marks.proofs.Fresh.{fresh_sound}
 use Rattle.ss_marks.proofs.marks.Marks.new.Goals as goal
 

@@ -1,4 +1,4 @@
-use Rattle.std.proofs.Common.{◌≡◌, ◌<◌, ◌+◌, Some, length, get_or, refl, sym, ap, subst, ◌∙◌, arith}
+use Rattle.std.proofs.Common.{◌≡◌, ◌<◌, Some, length, get_or, refl, sym, ap, subst, ◌∙◌, arith}
 use Rattle.std.specs.Vec.{with_items}
 use Rattle.ss_marks.specs.declared.colour.Colour.TheVariants.{Grey, Out}
 use Rattle.ss_marks.specs.Marks.{MarkTable, NoneIs, coloured, mark_of}
@@ -7,7 +7,7 @@ use Rattle.ss_marks.specs.Sound.{IsGrey}
 use Rattle.ss_marks.proofs.Rows.{coloured_within}
 use Rattle.ss_marks.proofs.Colours.{none_of_count}
 use Rattle.ss_marks.proofs.Marked.{mark_of_row}
-use Rattle.ss_marks.proofs.Stacks.{top_of, popped}
+use Rattle.ss_marks.proofs.Stacks.{popped}
 use Rattle.ss_marks.proofs.Changes.{recoloured_items, recoloured_from, recoloured_sound, recoloured_table, still_grey, live_of}
 use Rattle.ss_marks.proofs.Calls.{one_more_fits, grey_top}
 use Rattle.ss_marks.proofs.marks.Marks.pop_grey.Goals as goal

@@ -1,4 +1,4 @@
-use Rattle.std.proofs.Common.{◌≡◌, ◌<◌, ◌+◌, Some, length, get_or, refl, sym, ap, subst, ◌∙◌, arith, length-set}
+use Rattle.std.proofs.Common.{◌<◌, Some, length, get_or, refl, sym, ap, subst, ◌∙◌, arith, length-set}
 use Rattle.std.specs.Vec.{with_items}
 use Rattle.std.proofs.lemmas.List.{get_or-set_other}
 use Rattle.ss_marks.specs.declared.colour.Colour.TheVariants.{Grey, Out}

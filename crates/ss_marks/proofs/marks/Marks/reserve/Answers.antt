@@ -1,4 +1,4 @@
-use Rattle.std.proofs.Common.{◌≡◌, ◌≤◌, length, refl, sym, ap, subst, arith}
+use Rattle.std.proofs.Common.{◌≡◌, length, refl, sym, ap, subst, arith}
 use Rattle.ss_marks.specs.declared.index.Index.{Index}
 use Rattle.ss_marks.specs.Index.{Indexes}
 use Rattle.ss_marks.proofs.Fresh.{grown_sound}

@@ -1,10 +1,10 @@
-use Rattle.std.proofs.Common.{◌≡◌, ◌<◌, ◌+◌, Some, length, get_or, refl, sym, ap, subst, ◌∙◌, arith, length-set}
+use Rattle.std.proofs.Common.{◌<◌, Some, length, get_or, refl, sym, ap, subst, ◌∙◌, arith, length-set}
 use Rattle.std.specs.Prelude.{option_map}
 use Rattle.std.specs.Vec.{with_items}
 use Rattle.std.proofs.lemmas.List.{get_or-set_other}
 use Rattle.std.proofs.lemmas.Option.{same_Some}
-use Rattle.ss_marks.specs.declared.colour.Colour.TheVariants.{White, Grey, Out}
-use Rattle.ss_marks.specs.Marks.{Mark, MarkTable, row_of, colour_of, coloured, IsColoured}
+use Rattle.ss_marks.specs.declared.colour.Colour.TheVariants.{White, Grey}
+use Rattle.ss_marks.specs.Marks.{Mark, MarkTable, coloured, IsColoured}
 use Rattle.ss_marks.specs.Rows.{IsStack}
 use Rattle.ss_marks.specs.Sound.{IsGrey}
 use Rattle.ss_marks.proofs.Changes.{recoloured_items, recoloured_sound, recoloured_table}

@@ -1,10 +1,8 @@
-use Rattle.std.proofs.Common.{◌≡◌, length, refl, sym, ap, ◌∙◌}
+use Rattle.std.proofs.Common.{refl, ap, ◌∙◌}
 use Rattle.std.specs.Prelude.{option_map}
 use Rattle.std.specs.FinMap as finite_map
-use Rattle.std.specs.Vec.{with_items}
-use Rattle.std.proofs.lemmas.List.{with_items_is}
 use Rattle.ss_marks.specs.Marks.{MarkTable, mark_of, whitened}
-use Rattle.ss_marks.specs.Rows.{whitened_rows, marks_of}
+use Rattle.ss_marks.specs.Rows.{marks_of}
 use Rattle.ss_marks.proofs.Whitened.{whitened_items, whitened_sound, white_marks}
 use Rattle.ss_marks.proofs.marks.Marks.whiten.Goals as goal
 

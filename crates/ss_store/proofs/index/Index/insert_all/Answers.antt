@@ -6,8 +6,7 @@ use Rattle.ss_records.specs.declared.places.BlockPlace.{BlockPlace}
 use Rattle.ss_records.specs.declared.places.PutBlocks.{PutBlocks}
 use Rattle.ss_records.specs.Places.{places_left}
 use Rattle.ss_store.specs.declared.place.Place.{Place}
-use Rattle.ss_store.specs.Index.{CidMap}
-use Rattle.ss_store.specs.Places.{has_fault, with_places}
+use Rattle.ss_store.specs.Places.{CidMap, has_fault, with_places}
 use Rattle.ss_store.proofs.index.Index.insert_all.Goals as goal
 
 pub loop-block-init : goal.loop-block-init

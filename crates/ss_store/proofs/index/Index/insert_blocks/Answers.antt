@@ -1,7 +1,7 @@
 use Rattle.std.proofs.Common.{◌+◌, ℕ, length, take, map, ap, ◌∙◌, arith}
 use Rattle.std.specs.FinMap as finite_map
 use Rattle.ss_store.specs.declared.place.Place.{Place}
-use Rattle.ss_store.specs.Index.{CidMap, without_cids}
+use Rattle.ss_store.specs.Places.{CidMap, without_cids}
 use Rattle.ss_store.proofs.Placing.{length-Put, front-fits, front-next, insert-next, undone}
 use Rattle.ss_store.proofs.index.Index.insert_blocks.Goals as goal
 

@@ -1,7 +1,7 @@
 use Rattle.std.proofs.Common.{◌≡◌, ◌+◌, length, take}
 use Rattle.std.specs.List.{flat_map}
 use Rattle.ss_records.specs.Record.{block}
-use Rattle.ss_store.specs.Index.{with_pairs}
+use Rattle.ss_store.specs.Places.{with_pairs}
 use Rattle.ss_store.proofs.Placing.{placed_all}
 use Rattle.ss_store.proofs.index.Index.insert_blocks.Given as goal
 

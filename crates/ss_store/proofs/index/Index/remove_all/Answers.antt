@@ -2,7 +2,7 @@ use Rattle.std.proofs.Common.{List, ℕ, ◌∷◌, [], ◌++◌, take, sym, ◌
 use Rattle.std.specs.FinMap as finite_map
 use Rattle.std.proofs.lemmas.List.{take_all, take_more}
 use Rattle.ss_store.specs.declared.place.Place.{Place}
-use Rattle.ss_store.specs.Index.{CidMap, without_cids}
+use Rattle.ss_store.specs.Places.{CidMap, without_cids}
 use Rattle.ss_store.proofs.Pairs.{without_cids-push}
 use Rattle.ss_store.proofs.index.Index.remove_all.Goals as goal
 

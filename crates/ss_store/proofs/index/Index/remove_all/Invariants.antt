@@ -1,5 +1,5 @@
 use Rattle.std.proofs.Common.{◌≡◌, take}
-use Rattle.ss_store.specs.Index.{without_cids}
+use Rattle.ss_store.specs.Places.{without_cids}
 use Rattle.ss_store.proofs.index.Index.remove_all.Given as goal
 
 abbrev pub invariant-loop-cid : goal.invariant-loop-cid

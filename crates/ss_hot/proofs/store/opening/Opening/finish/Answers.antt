@@ -2,7 +2,7 @@ use Rattle.std.proofs.Common.{◌≡◌, ℕ, List, ◌∙◌, ap, subst}
 use Rattle.std.proofs.lemmas.Result.{err_from_is_err_and}
 use Rattle.std.specs.Prelude.{Err}
 use Rattle.ss_gatelog.specs.Log.{HasList}
-use Rattle.ss_gatelog.specs.Records.{Reader}
+use Rattle.ss_gatelog.specs.Gate.{Reader}
 use Rattle.ss_store.specs.declared.fault.StoreFault.TheVariants.{Damaged}
 use Rattle.ss_store.specs.Append.{bodies}
 use Rattle.ss_hot.specs.File.{IsFaulty}

@@ -3,7 +3,7 @@ use Rattle.std.specs.Prelude.{Ok, Some, None, IfSome, MatchBool}
 use Rattle.ss_disk.specs.Disk.{Files, Same}
 use Rattle.ss_disk.specs.Calls.{Goes}
 use Rattle.ss_disk.proofs.Goes.{then_same}
-use Rattle.ss_gatelog.specs.Records.{HasLent}
+use Rattle.ss_gatelog.specs.Gate.{HasLent}
 use Rattle.ss_records.specs.declared.record.Config.{Config as Settings}
 use Rattle.ss_records.specs.declared.record.Record.TheVariants.{Config}
 use Rattle.ss_records.specs.Record.{SettingsFit}

@@ -1,6 +1,6 @@
 use Rattle.std.proofs.Common.{sym, subst}
 use Rattle.ss_store.specs.declared.place.Place.{Place}
-use Rattle.ss_store.specs.Index.{CidMap}
+use Rattle.ss_store.specs.Places.{CidMap}
 use Rattle.ss_hot.specs.Opening.{AreBefore}
 use Rattle.ss_hot.proofs.Passed.{before_none}
 use Rattle.ss_hot.proofs.store.walk.Walk.new.Goals as goal

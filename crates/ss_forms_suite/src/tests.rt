@@ -1,0 +1,5 @@
+mod cbor;
+mod chain;
+mod cid;
+mod hash;
+mod records;

@@ -1,0 +1,3 @@
+mod gatelog;
+mod hot;
+mod store;

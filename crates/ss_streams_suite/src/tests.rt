@@ -1,0 +1,3 @@
+mod car;
+mod io;
+mod script;

@@ -3,7 +3,7 @@
  *
  * INTERPOSED_FAIL  rules, separated by commas. "pwrite hot-a.log 3 28": the third pwrite on hot-a.log fails with error
  *                  28, and no other call does. A call "*" is any, a file "*" is any but memory. Error 0: the call moves
- *                  one byte alone.
+ *                  one byte alone. Error 4096: the call moves none, as a read does at the end of a file.
  * INTERPOSED_LOG   the file to which a line is written for each call: its name, the file, the offset, the length that
  *                  was asked for, and the result, or the error below 0. At the end, the number of allocations.
  *
@@ -24,8 +24,8 @@
 
 enum { RULES = 8, LOG_FROM = 200, NAME = 64 };
 
-/* What becomes of a call: it is made, made for one byte, or fails with an error above 0. */
-enum { MADE = -1, ONE_BYTE = 0 };
+/* What becomes of a call: it is made, made for one byte, moves none, or fails with another error above 0. */
+enum { MADE = -1, ONE_BYTE = 0, NO_BYTE = 4096 };
 
 struct rule {
     char call[NAME], file[NAME];
@@ -95,6 +95,8 @@ static ssize_t moved(const char *call, long number, int fd, void *bytes, size_t 
     char name[PATH_MAX];
     const char *file = name_of(fd, name);
     int verdict = verdict_on(call, file);
+    if (verdict == NO_BYTE)
+        return noted(call, file, at, length, 0);
     if (verdict > 0)
         return refused(call, file, at, length, verdict);
     size_t some = verdict == ONE_BYTE && length > 1 ? 1 : length;

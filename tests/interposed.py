@@ -15,8 +15,8 @@ from stores import written
 
 SOURCE = os.path.join(os.path.dirname(os.path.abspath(__file__)), "interposed.c")
 
-# The error by which a call moves one byte alone.
-ONE_BYTE = 0
+# The errors by which a call moves one byte alone, and none.
+ONE_BYTE, NO_BYTE = 0, 4096
 
 
 @dataclasses.dataclass(frozen=True)

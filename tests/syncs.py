@@ -5,7 +5,7 @@ from checking import check, expect, expect_that
 from failures import disk_fault, reason
 from formats import random_block
 from headers import header_block
-from interposed import on, run
+from interposed import NO_BYTE, on, run
 from model import Head, Model
 from stores import (EXISTS, FILES, HOT, INIT, MADE, Store, answers, copied, files_in, found, get_line, head_line, new_folder, new_store,
                     put_line, script_of)
@@ -155,3 +155,14 @@ def failed_lock(trial):
         expect(f"{arguments[0]} without a lock", ended, disk_fault(".", "lock", errno.ENOLCK))
     expect("the files of the store", store.files(), before)
     expect("the files of the empty folder", files_in(empty), {})
+
+
+@check("a log that ends before a block that was there answers fault with its reason, and the next run finds the block")
+def short_log(trial):
+    store = filled(trial)
+    script = script_of(get_line(store.blocks[1]))
+    _, calm = run(trial, store.folder, "trace", script=script)
+    ended, _ = run(trial, store.folder, "trace", script=script, rules=[("pread", HOT, len(on(calm, HOT, "pread")), NO_BYTE)])
+    expect("the answers", answers(ended.out), ["opened 0", "fault"])
+    expect("the end", (ended.status, ended.err), (0, f"splitstore: {HOT}: read: failed to fill whole buffer\n".encode("ascii")))
+    store.expect_found("after a read that failed")

@@ -10,7 +10,7 @@ const PAUSE: u64 = 100;
 /// A source that is lent, and tells on standard error how many bytes were read of it, at most ten times a second. That
 /// standard error takes a line is not needed for anything.
 #[derive(Drop)]
-pub struct Watched<'a, R, S> {
+pub(crate) struct Watched<'a, R, S> {
     rt: &'a R,
     source: &'a mut S,
     read: u64,
@@ -20,7 +20,7 @@ pub struct Watched<'a, R, S> {
 
 impl<'a, R: Clock + Eprint, S: Source> Watched<'a, R, S> {
     /// A source of which nothing was read, and which has `of` bytes, if that is known.
-    pub fn new(rt: &'a R, source: &'a mut S, of: Option<u64>) -> Watched<'a, R, S> {
+    pub(crate) fn new(rt: &'a R, source: &'a mut S, of: Option<u64>) -> Watched<'a, R, S> {
         Watched {
             rt,
             source,

@@ -22,7 +22,7 @@ use Rattle.ss_import.proofs.Complete.{complete}
 use Rattle.ss_import.proofs.Small.{state_small}
 use Rattle.ss_app.specs.declared.ending.Ending.{Ending}
 use Rattle.ss_app.specs.Ending.{status_of, line_of, ending_of_open, ending_of_outcome}
-use Rattle.ss_app.specs.Importing.{IsNotOpened, IsImported, IsInformed, ImportRan, InfoRan, IsValidImport, IsValidInfo}
+use Rattle.ss_app.specs.Outcome.{IsNotOpened, IsImported, IsInformed, ImportRan, InfoRan, IsValidImport, IsValidInfo}
 use Rattle.ss_app.specs.Outcome.{RefusesStore, IsFreeOfDisk}
 use Rattle.ss_app.specs.World.{World, Says}
 use Rattle.ss_app.proofs.Refused.{own_or_five, committed_of, not_five, free_five}

@@ -21,7 +21,7 @@ use Rattle.ss_import.specs.declared.fault.ImportFault.{ImportFault}
 use Rattle.ss_app.specs.declared.ending.Ending.{Ending}
 use Rattle.ss_app.specs.declared.ending.Ending.TheVariants.{Informed}
 use Rattle.ss_app.specs.Ending.{status_of, line_of, ending_of_outcome}
-use Rattle.ss_app.specs.Importing.{ImportRan, InfoRan}
+use Rattle.ss_app.specs.Outcome.{ImportRan, InfoRan}
 use Rattle.ss_app.specs.World.{World, Says}
 
 -- the entries of an import, of which more holds

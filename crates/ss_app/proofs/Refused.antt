@@ -4,7 +4,7 @@ use Rattle.std.specs.Prelude.{IsTrue}
 use Rattle.ss_disk.specs.Disk.{Rose}
 use Rattle.ss_disk.specs.declared.disk.Disk.{Ghosts}
 use Rattle.ss_records.specs.declared.record.Config.{Config as Settings}
-use Rattle.ss_hot.specs.File.{HasSettings}
+use Rattle.ss_hot.specs.Half.{HasSettings}
 use Rattle.ss_model.specs.declared.call.Entry.{Entry}
 use Rattle.ss_app.specs.declared.TheConstants.{SCRIPT_BYTES}
 use Rattle.ss_script.specs.declared.line.Line.{Line}
@@ -18,7 +18,7 @@ use Rattle.ss_import.specs.Import.{CountsSource as SourceOfImport}
 use Rattle.ss_import.specs.declared.importer.Imported.{Imported}
 use Rattle.ss_import.specs.declared.fault.ImportFault.{ImportFault}
 use Rattle.ss_import.specs.declared.fault.ImportFault.TheVariants as import
-use Rattle.ss_app.specs.Importing.{IsNotOpened, IsImported, IsInformed}
+use Rattle.ss_app.specs.Outcome.{IsNotOpened, IsImported, IsInformed}
 use Rattle.ss_app.proofs.ImportFaults.{faults_of, import_faults}
 use Rattle.ss_app.specs.Outcome.{Traced, Inited, Writes, Ran, HasReason, HasInitReason, CountsSource, CountsDisk, AsksFor, RefusesStore, RefusesInit, IsFreeOfDisk, IsValidInit, TellsFaults}
 use Rattle.ss_app.specs.World.{Says}

@@ -10,6 +10,7 @@ use Rattle.ss_core.specs.declared.split_core.SplitCore.{SplitCore}
 use Rattle.ss_open.specs.declared.fault.OpenFault.{OpenFault}
 use Rattle.ss_open.specs.declared.fault.OpenFault.TheVariants as opening
 use Rattle.ss_open.specs.Opening.{Made, Inits}
+use Rattle.ss_open.proofs.Makings.{none_risen}
 use Rattle.ss_app.specs.declared.ending.Ending.TheVariants.{Done, NoMemory, DiskFault, StoreExists}
 use Rattle.ss_app.specs.Ending.{line_of, status_of, ending_of_open}
 use Rattle.ss_history.specs.Story.{AreCounted}
@@ -33,23 +34,23 @@ none_counted before now same = record { enough = omega (arith, same); none = λ 
 
 module _ {D : Type 0} (disk : Ghosts D) (old new : World D) (settings : Settings) (status : ℕ) (source : new.source ≡ old.source) where
   -- a store is made
-  pub made_store : (core : SplitCore D disk) → core.disk ≡ new.disk → (IsTrue disk.told → Made disk old.disk settings (Ok core)) → Inits {disk = disk} old.disk settings (Ok core)
+  pub made_store : (core : SplitCore D disk) → core.disk ≡ new.disk → (IsTrue disk.told → Made disk old.disk settings (Ok core)) → Inits {T = SplitCore D disk} disk old.disk core.disk settings (Ok core)
       → Says old.sink new.sink (codes "store made\n") 0 status → Inited disk old new settings status
   made_store core is made inits said = record {
     ending = Done;
     reason = λ told. rw (← is) ((made told).0, (made told).2);
     source = source;
-    faults = rw (← is) (none_counted _ _ inits.counts);
+    faults = rw (← is) (none_counted _ _ (none_risen disk _ _ settings (Ok core) inits (λ same. let differ : ⊥ = cc (same) in differ)));
     kept = rw (← is) inits.kept;
     stops = rw (← is) inits.stops;
     said = subst (λ b. Says old.sink new.sink b 0 status) (sym (append-nil (codes "store made\n"))) said;
   }
 
   -- none is made
-  pub made_none : (fault : OpenFault) → (IsTrue disk.told → Made disk old.disk settings (Err (fault, new.disk))) → Inits {disk = disk} old.disk settings (Err (fault, new.disk))
+  pub made_none : (fault : OpenFault) → (IsTrue disk.told → Made disk old.disk settings (Err (fault, new.disk))) → Inits {T = SplitCore D disk} disk old.disk new.disk settings (Err fault)
       → Says old.sink new.sink (line_of (ending_of_open fault)) (status_of (ending_of_open fault)) status → Inited disk old new settings status
-  made_none opening.NoStore made inits said = absurd (inits.errors opening.NoStore new.disk refl)
-  made_none (opening.Damaged file at) made inits said = absurd (inits.errors (opening.Damaged file at) new.disk refl)
-  made_none opening.StoreExists made inits said = record { ending = StoreExists; reason = made; source = source; faults = none_counted _ _ inits.counts; kept = inits.kept; stops = inits.stops; said = said }
-  made_none opening.DiskFault made inits said = record { ending = DiskFault; reason = tt; source = source; faults = inits.counts; kept = inits.kept; stops = inits.stops; said = said }
-  made_none opening.NoMemory made inits said = record { ending = NoMemory; reason = inits.memory new.disk refl; source = source; faults = none_counted _ _ inits.counts; kept = inits.kept; stops = inits.stops; said = said }
+  made_none opening.NoStore made inits said = absurd inits.errors
+  made_none (opening.Damaged file at) made inits said = absurd inits.errors
+  made_none opening.StoreExists made inits said = record { ending = StoreExists; reason = made; source = source; faults = none_counted _ _ (none_risen disk _ _ settings (Err opening.StoreExists) inits (λ same. let differ : ⊥ = cc (same) in differ)); kept = inits.kept; stops = inits.stops; said = said }
+  made_none opening.DiskFault made inits said = record { ending = DiskFault; reason = tt; source = source; faults = inits.counts.rose refl; kept = inits.kept; stops = inits.stops; said = said }
+  made_none opening.NoMemory made inits said = record { ending = NoMemory; reason = inits.memory refl; source = source; faults = none_counted _ _ (none_risen disk _ _ settings (Err opening.NoMemory) inits (λ same. let differ : ⊥ = cc (same) in differ)); kept = inits.kept; stops = inits.stops; said = said }

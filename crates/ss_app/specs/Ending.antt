@@ -1,35 +1,31 @@
 -- The status of each ending of a run, and the line that tells why.
 use Rattle.std.specs.Prelude.{ℕ, List, [], ◌∷◌, ◌++◌, codes, Result, Ok, Err}
 use Rattle.ss_io.specs.declared.whole.ReadAllFault.{ReadAllFault}
-use Rattle.ss_io.specs.declared.whole.ReadAllFault.TheVariants as input
 use Rattle.ss_script.specs.{declared.fault.ScriptFault.ScriptFault, Fault.kind_number, Text.{numbers_text, head_reply_text, height_text, info_text, settings_text}}
-use Rattle.ss_script.specs.declared.fault.ScriptFault.TheVariants as script
 use Rattle.ss_car.specs.Car.{number_of}
 use Rattle.ss_model.specs.declared.call.Info.{Info}
 use Rattle.ss_import.specs.{Import.block_number, declared.importer.Imported.Imported as Import, declared.fault.ImportFault.ImportFault}
-use Rattle.ss_import.specs.declared.fault.ImportFault.TheVariants as import
 use Rattle.ss_app.specs.{declared.ending.Ending.Ending, declared.ending.Ending.TheVariants.{Done, Usage, NoMemory, ReadFault, DiskFault, NoStore, StoreExists, Damaged, BadScript, TooLong, NotImported, Imported, Informed}}
 use Rattle.ss_open.specs.declared.fault.OpenFault.{OpenFault}
-use Rattle.ss_open.specs.declared.fault.OpenFault.TheVariants as opening
 
 -- the ending of a run whose source is not read to its end
 abbrev pub ending_of_input : ReadAllFault → Ending
-ending_of_input input.Failed = ReadFault
-ending_of_input input.TooLong = TooLong
-ending_of_input input.NoMemory = NoMemory
+ending_of_input ReadAllFault.Failed = ReadFault
+ending_of_input ReadAllFault.TooLong = TooLong
+ending_of_input ReadAllFault.NoMemory = NoMemory
 
 -- the ending of a run whose script is not read
 abbrev pub ending_of : ScriptFault → Ending
-ending_of (script.Bad line kind) = BadScript line kind
-ending_of script.NoMemory = NoMemory
+ending_of (ScriptFault.Bad line kind) = BadScript line kind
+ending_of ScriptFault.NoMemory = NoMemory
 
 -- the ending of a run whose store is not opened or made
 abbrev pub ending_of_open : OpenFault → Ending
-ending_of_open opening.NoStore = NoStore
-ending_of_open opening.StoreExists = StoreExists
-ending_of_open (opening.Damaged file at) = Damaged file at
-ending_of_open opening.DiskFault = DiskFault
-ending_of_open opening.NoMemory = NoMemory
+ending_of_open OpenFault.NoStore = NoStore
+ending_of_open OpenFault.StoreExists = StoreExists
+ending_of_open (OpenFault.Damaged file at) = Damaged file at
+ending_of_open OpenFault.DiskFault = DiskFault
+ending_of_open OpenFault.NoMemory = NoMemory
 
 -- the ending of a run into whose store a CAR was imported
 abbrev pub ending_of_outcome : Result Import ImportFault → Ending
@@ -37,15 +33,15 @@ ending_of_outcome (Ok imported) = Imported imported
 ending_of_outcome (Err fault) = NotImported fault
 
 abbrev pub import_status : ImportFault → ℕ
-import_status import.NoMemory = 3
-import_status import.ReadFault = 4
-import_status import.DiskFault = 6
-import_status (import.BadCar fault offset) = 10
-import_status (import.BadBlock fault offset) = 10
-import_status (import.LogFull file need room) = 11
-import_status (import.TableFull rows) = 12
-import_status import.TooLong = 13
-import_status (import.BadHead reply) = 16
+import_status ImportFault.NoMemory = 3
+import_status ImportFault.ReadFault = 4
+import_status ImportFault.DiskFault = 6
+import_status (ImportFault.BadCar fault offset) = 10
+import_status (ImportFault.BadBlock fault offset) = 10
+import_status (ImportFault.LogFull file need room) = 11
+import_status (ImportFault.TableFull rows) = 12
+import_status ImportFault.TooLong = 13
+import_status (ImportFault.BadHead reply) = 16
 
 abbrev pub status_of : Ending → ℕ
 status_of Done = 0
@@ -64,15 +60,15 @@ status_of (Informed info) = 0
 
 -- the line of an import that ended before its CAR did
 abbrev pub import_line : ImportFault → List ℕ
-import_line import.NoMemory = codes "error: no memory\n"
-import_line import.ReadFault = codes "error: read fault\n"
-import_line import.DiskFault = codes "error: disk fault\n"
-import_line (import.BadCar fault offset) = codes "error: car" ++ (numbers_text (number_of fault ∷ offset ∷ []) ++ codes "\n")
-import_line (import.BadBlock fault offset) = codes "error: car" ++ (numbers_text (block_number fault ∷ offset ∷ []) ++ codes "\n")
-import_line (import.LogFull file need room) = codes "error: log full" ++ (numbers_text (file ∷ need ∷ room ∷ []) ++ codes "\n")
-import_line (import.TableFull rows) = codes "error: table full" ++ (numbers_text (rows ∷ []) ++ codes "\n")
-import_line import.TooLong = codes "error: too long\n"
-import_line (import.BadHead reply) = codes "error: head " ++ (head_reply_text reply ++ codes "\n")
+import_line ImportFault.NoMemory = codes "error: no memory\n"
+import_line ImportFault.ReadFault = codes "error: read fault\n"
+import_line ImportFault.DiskFault = codes "error: disk fault\n"
+import_line (ImportFault.BadCar fault offset) = codes "error: car" ++ (numbers_text (number_of fault ∷ offset ∷ []) ++ codes "\n")
+import_line (ImportFault.BadBlock fault offset) = codes "error: car" ++ (numbers_text (block_number fault ∷ offset ∷ []) ++ codes "\n")
+import_line (ImportFault.LogFull file need room) = codes "error: log full" ++ (numbers_text (file ∷ need ∷ room ∷ []) ++ codes "\n")
+import_line (ImportFault.TableFull rows) = codes "error: table full" ++ (numbers_text (rows ∷ []) ++ codes "\n")
+import_line ImportFault.TooLong = codes "error: too long\n"
+import_line (ImportFault.BadHead reply) = codes "error: head " ++ (head_reply_text reply ++ codes "\n")
 
 -- how many sections and new blocks there were, and the height that was set
 abbrev pub imported_text : Import → List ℕ

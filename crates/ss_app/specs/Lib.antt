@@ -1,5 +1,4 @@
 pub mod Ending
-pub mod Importing
 pub mod Outcome
 pub mod Progress
 pub mod Words

@@ -7,13 +7,15 @@
 use Rattle.std.specs.{Prelude.{◌≡◌, ◌⊎◌, ℕ, Bool, true, false, ◌<◌, ◌≤◌, List, [], ◌++◌, length, codes, Option, Some, Result, Ok, Err, IsErr, IsTrue}, Option.ForSome, Io.KnownBytes.{Appends, IsAtEnd}}
 use Rattle.ss_disk.specs.{declared.disk.Disk.Ghosts, Disk.{Same, Evolves, Rose}, Calls.Goes}
 use Rattle.ss_records.specs.declared.record.Config.{Config as Settings}
-use Rattle.ss_hot.specs.File.{HasSettings}
-use Rattle.ss_model.specs.{State.State, History.Legal, declared.call.Entry.Entry}
+use Rattle.ss_hot.specs.Half.{HasSettings}
+use Rattle.ss_model.specs.{State.State, Lawful.{Legal, info_of}, declared.call.{Entry.Entry, Info.Info as StoreInfo}}
 use Rattle.ss_core.specs.StandsFor.{HasState}
-use Rattle.ss_open.specs.Opening.{HasNoStore, IsDamagedStore, AreEmptyBeside, IsNewStore}
-use Rattle.ss_script.specs.{declared.TheConstants.CLIENTS, declared.line.Line.Line, declared.fault.ScriptFault.TheVariants.Bad, Script.script_of, Text.text, Views.no_views}
-use Rattle.ss_app.specs.{declared.TheConstants.SCRIPT_BYTES, declared.help.TheConstants.{HELP, VERSION}, declared.words.Command.Command, declared.words.Command.TheVariants.{Init, Trace, Import, Info, Help, Version}, declared.ending.Ending.Ending, declared.ending.Ending.TheVariants.{Done, Usage, NoMemory, ReadFault, DiskFault, NoStore, StoreExists, Damaged, BadScript, TooLong}, Ending.{status_of, line_of}, World.{IsTooLong, Input, Output, World, Says}, Progress.InOrder, Importing.{ImportRan, InfoRan}}
+use Rattle.ss_open.specs.{Opening.{HasNoStore, IsDamagedStore, AreEmptyBeside, IsNewStore, Opened, Opens}, declared.fault.OpenFault.OpenFault}
+use Rattle.ss_script.specs.{declared.{TheConstants.CLIENTS, line.Line.Line, fault.ScriptFault.TheVariants.Bad}, Script.script_of, Text.text, Views.no_views}
+use Rattle.ss_app.specs.{declared.{TheConstants.SCRIPT_BYTES, help.TheConstants.{HELP, VERSION}, words.Command.{Command, TheVariants.{Init, Trace, Import, Info, Help, Version}}, ending.Ending.{Ending, TheVariants.{Done, Usage, NoMemory, ReadFault, DiskFault, NoStore, StoreExists, Damaged, BadScript, TooLong, Informed}}}, Ending.{status_of, line_of, ending_of_open, ending_of_outcome}, World.{IsTooLong, Input, Output, World, Says}, Progress.InOrder}
 use Rattle.ss_history.specs.Story.{AreCounted, HavePlace, IsFulfilled, HasStore, IsHistory}
+use Rattle.ss_car.specs.Car.{Section}
+use Rattle.ss_import.specs.{Import.{IsImport, CountsSource as CountsImport, IsImportable}, declared.{importer.Imported.Imported, fault.ImportFault.ImportFault}}
 
 -- the script is no longer than it may be, and asks for these lines
 abbrev pub AsksFor : List ℕ → List Line → Type 0
@@ -123,6 +125,57 @@ pub record Writes {D : Type 0} (old new : World D) (bytes : List ℕ) (own statu
   pub source : new.source ≡ old.source
   pub disk : new.disk ≡ old.disk
   pub said : Says old.sink new.sink bytes own status
+
+-- the store was not opened, for this fault, and the source was not read
+pub record IsNotOpened {D : Type 0} (disk : Ghosts D) (old new : World D) (ending : Ending) : Type 0 where
+  pub fault : OpenFault
+  pub ends : ending ≡ ending_of_open fault
+  pub source : new.source ≡ old.source
+  pub told : IsTrue disk.told → Opened disk old.disk (Err (fault, new.disk))
+  pub opens : Opens {disk = disk} old.disk (Err (fault, new.disk))
+
+-- the calls of an import on the store that the disk had, and what came of it
+pub record IsImported {D : Type 0} (wants : Bool) (disk : Ghosts D) (old new : World D) (ending : Ending) : Type 0 where
+  pub outcome : Result Imported ImportFault
+  pub ends : ending ≡ ending_of_outcome outcome
+  pub imports : IsImport (λ h. IsHistory disk old.disk new.disk h × AreCounted (disk.faults old.disk) (disk.faults new.disk) h) wants old.source.left outcome
+  pub source : CountsImport old.source.faults new.source.faults outcome
+
+-- what the store counts that the disk had; no file changed
+pub record IsInformed {D : Type 0} (disk : Ghosts D) (old new : World D) (ending : Ending) : Type 0 where
+  pub info : StoreInfo
+  pub ends : ending ≡ Informed info
+  pub source : new.source ≡ old.source
+  pub told : IsTrue disk.told → (s : State) × (end : ℕ) × HasState (disk.files old.disk 0) end s × (info ≡ info_of s)
+  pub goes : Goes disk Same old.disk new.disk
+  pub faults : disk.faults new.disk ≡ disk.faults old.disk
+
+pub record ImportRan {D : Type 0} (wants : Bool) (disk : Ghosts D) (old new : World D) (status : ℕ) : Type 0 where
+  pub ending : Ending
+  pub reason : IsNotOpened disk old new ending ⊎ IsImported wants disk old new ending
+  pub said : Says old.sink new.sink (line_of ending) (status_of ending) status
+
+pub record InfoRan {D : Type 0} (disk : Ghosts D) (old new : World D) (status : ℕ) : Type 0 where
+  pub ending : Ending
+  pub reason : IsNotOpened disk old new ending ⊎ IsInformed disk old new ending
+  pub said : Says old.sink new.sink (line_of ending) (status_of ending) status
+
+-- Nothing stands in the way of a run of `import`: the disk has a store, the CAR may go into each state of it, and no count of faults rises.
+pub record IsValidImport {D : Type 0} (wants : Bool) (disk : Ghosts D) (old new : World D) (bytes : List ℕ) (roots : List (List ℕ)) (sections : List Section) : Type 0 where
+  pub told : old.source.left ≡ Some bytes
+  pub source : ¬ Rose old.source.faults new.source.faults
+  pub sink : ¬ Rose old.sink.faults new.sink.faults
+  pub faults : ¬ Rose (disk.faults old.disk) (disk.faults new.disk)
+  pub tells : IsTrue disk.told
+  pub stands : HasStore (disk.files old.disk 0)
+  pub importable : (s : State) (end : ℕ) → HasState (disk.files old.disk 0) end s → IsImportable wants bytes roots sections s end
+
+-- nothing stands in the way of a run of `info`: the disk has a store, and no count of faults rises
+pub record IsValidInfo {D : Type 0} (disk : Ghosts D) (old new : World D) : Type 0 where
+  pub sink : ¬ Rose old.sink.faults new.sink.faults
+  pub faults : ¬ Rose (disk.faults old.disk) (disk.faults new.disk)
+  pub tells : IsTrue disk.told
+  pub stands : HasStore (disk.files old.disk 0)
 
 -- a run of the command that words ask for, or the refusal of the first that is invalid
 abbrev pub Ran : Result Command ℕ → {D : Type 0} → Ghosts D → World D → World D → ℕ → Type 0

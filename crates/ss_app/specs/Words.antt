@@ -11,7 +11,6 @@
 use Rattle.std.specs.{Prelude.{ℕ, ◌+◌, ◌-◌, ◌^◌, ◌==◌, ◌&&◌, nat_le, true, false, List, [], ◌∷◌, ◌++◌, if◌then◌else◌, length, take, drop, position, codes, Option, Some, None, Result, Ok, Err, option_map, unwrap_or}, Option.{option_and_then, option_map_or}, Fmt.decimal, Str.bytes_eq, Str.Parse.digits_value}
 use Rattle.ss_records.specs.{declared.record.Config.Config, declared.record.Mode.Mode, declared.record.Mode.TheVariants.Discard, Record.SettingsFit}
 use Rattle.ss_app.specs.{declared.words.Command.Command, declared.words.Command.TheVariants.{Init, Trace, Import, Info, Help, Version}, declared.words.Key.Key, declared.words.Settings.Settings}
-use Rattle.ss_app.specs.declared.words.Key.TheVariants as key
 use Rattle.ss_script.specs.Fields.{is_number}
 
 -- the number of a value, where it is valid and within these bounds
@@ -27,12 +26,12 @@ mode_of value = if bytes_eq value (codes "discard") then Some Discard else None
 -- the key of this name
 abbrev pub key_of : List ℕ → Option Key
 key_of name =
-    if bytes_eq name (codes "mode") then Some key.Mode
-    else if bytes_eq name (codes "depth") then Some key.Depth
-    else if bytes_eq name (codes "threshold") then Some key.Threshold
-    else if bytes_eq name (codes "batch") then Some key.Batch
-    else if bytes_eq name (codes "rows") then Some key.Rows
-    else if bytes_eq name (codes "limit") then Some key.Limit
+    if bytes_eq name (codes "mode") then Some Key.Mode
+    else if bytes_eq name (codes "depth") then Some Key.Depth
+    else if bytes_eq name (codes "threshold") then Some Key.Threshold
+    else if bytes_eq name (codes "batch") then Some Key.Batch
+    else if bytes_eq name (codes "rows") then Some Key.Rows
+    else if bytes_eq name (codes "limit") then Some Key.Limit
     else None
 
 -- what stands before the first `=` of a word, and what stands behind it
@@ -46,12 +45,12 @@ once (Some before) value = None
 
 -- the settings with the value of one key more, where it is valid and within the key's range
 unfoldable pub with_value : Settings → Key → List ℕ → Option Settings
-with_value s key.Mode value = option_map (λ m. record s { mode = Some m }) (once s.mode (mode_of value))
-with_value s key.Depth value = option_map (λ n. record s { depth = Some n }) (once s.depth (number_within 0 (2 ^ 62) value))
-with_value s key.Threshold value = option_map (λ n. record s { threshold = Some n }) (once s.threshold (number_within 1 (2 ^ 62) value))
-with_value s key.Batch value = option_map (λ n. record s { batch = Some n }) (once s.batch (number_within 1 4096 value))
-with_value s key.Rows value = option_map (λ n. record s { rows = Some n }) (once s.rows (number_within 1 (2 ^ 32 - 1) value))
-with_value s key.Limit value = option_map (λ n. record s { limit = Some n }) (once s.limit (number_within 65536 (2 ^ 40) value))
+with_value s Key.Mode value = option_map (λ m. record s { mode = Some m }) (once s.mode (mode_of value))
+with_value s Key.Depth value = option_map (λ n. record s { depth = Some n }) (once s.depth (number_within 0 (2 ^ 62) value))
+with_value s Key.Threshold value = option_map (λ n. record s { threshold = Some n }) (once s.threshold (number_within 1 (2 ^ 62) value))
+with_value s Key.Batch value = option_map (λ n. record s { batch = Some n }) (once s.batch (number_within 1 4096 value))
+with_value s Key.Rows value = option_map (λ n. record s { rows = Some n }) (once s.rows (number_within 1 (2 ^ 32 - 1) value))
+with_value s Key.Limit value = option_map (λ n. record s { limit = Some n }) (once s.limit (number_within 65536 (2 ^ 40) value))
 
 -- the settings with one word more, where it is valid
 unfoldable pub with_word : Settings → List ℕ → Option Settings

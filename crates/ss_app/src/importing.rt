@@ -1,5 +1,5 @@
 //! The commands `import` and `info`.
-ghost use Rattle.ss_app.specs.Importing.{ImportRan, InfoRan};
+ghost use Rattle.ss_app.specs.Outcome.{ImportRan, InfoRan};
 ghost use Rattle.ss_app.specs.World.{world};
 
 use crate::ending::Ending;

@@ -16,7 +16,7 @@ ghost use Rattle.ss_core.specs.StandsFor.{StandsFor};
 ghost use Rattle.ss_app.specs.declared.words.Command.TheVariants as command;
 ghost use Rattle.ss_app.specs.Ending.{status_of, line_of};
 ghost use Rattle.ss_app.specs.Outcome.{Reads, CallsMade, Traced, Inited, Ran, TellsFaults, RefusesScript, RefusesStore, RefusesInit, IsValidTrace, IsValidInit, AsksFor};
-ghost use Rattle.ss_app.specs.Importing.{IsValidImport, IsValidInfo};
+ghost use Rattle.ss_app.specs.Outcome.{IsValidImport, IsValidInfo};
 ghost use Rattle.ss_app.specs.Progress.{PrintsUnless, Progress, Stepped};
 ghost use Rattle.ss_history.specs.Story.{Story};
 ghost use Rattle.ss_app.specs.Words.{command_of};

@@ -18,8 +18,8 @@ use Rattle.ss_model.specs.declared.call.Call.TheVariants as call
 use Rattle.ss_model.specs.declared.call.Answer.TheVariants as answer
 use Rattle.ss_core.specs.declared.split_core.SplitCore.{SplitCore}
 use Rattle.ss_core.specs.Calls.{Steps}
-use Rattle.ss_core.specs.Effect.{no_effect, get_effect, effect_of}
-use Rattle.ss_core.specs.Reads.{len_of, HasLen}
+use Rattle.ss_core.specs.Calls.{no_effect, get_effect, effect_of}
+use Rattle.ss_core.specs.Replies.{len_of, HasLen}
 use Rattle.ss_core.specs.StandsFor.{StandsFor, HasEitherState}
 use Rattle.ss_core.proofs.Idle.{IsIdle, idle, unwritten, doubts_none, doubts_same, stands_still}
 use Rattle.ss_model.specs.declared.call.GetReply.{GetReply}
@@ -37,7 +37,7 @@ pub fetched_is : (kept : Kept) (c : List ℕ) → None ≡ identity_of c → fet
 fetched_is kept c none = fetched_by kept c ∙ ap (λ i. option_or i (finite_map.get kept c)) (sym none)
 
 -- a digest is no longer than its CID
-digest_short : (c : List ℕ) → length (digest_of c) ≤ length c
+pub digest_short : (c : List ℕ) → length (digest_of c) ≤ length c
 unfolding digest_of
 digest_short c = omega (arith, length-drop (part_of (λ head. head.digest_at) (cid_head c)) c)
 

@@ -15,14 +15,14 @@ use Rattle.ss_records.specs.declared.record.Record.TheVariants.{Head}
 use Rattle.ss_records.specs.Record.{Fits, IsValue, spelling}
 use Rattle.ss_chain.specs.Fetch.{fetched}
 use Rattle.ss_chain.specs.Steps.{first_of}
-use Rattle.ss_chain.specs.Tipset.{cids_fault}
+use Rattle.ss_chain.specs.Tipset.{tipset_of, cids_fault}
 use Rattle.ss_store.specs.Append.{bodies}
 use Rattle.ss_store.specs.Places.{CidMap}
 use Rattle.ss_hot.specs.Half.{hot_after, hot_from}
 use Rattle.ss_hot.specs.Store.{Hot, Keeps, SameButDoubt, room_of}
 use Rattle.ss_hot.proofs.Grown.{head_from-push, base_from-push, tells_next}
 use Rattle.ss_model.specs.State.{Kept, State, empty_state}
-use Rattle.ss_model.specs.Head.{answer_of, absent_at, unread_refusal, IsHead, head_need}
+use Rattle.ss_model.specs.Head.{blocks_of, answer_of, absent_at, unread_refusal, IsHead, head_need}
 use Rattle.ss_model.specs.Lawful.{After, LawfulHead, after_head, is_disk_fault}
 use Rattle.ss_model.specs.declared.call.Call.{Call}
 use Rattle.ss_model.specs.declared.call.Call.TheVariants as call
@@ -32,8 +32,8 @@ use Rattle.ss_model.specs.declared.call.HeadReply.{HeadReply}
 use Rattle.ss_model.specs.declared.call.HeadReply.TheVariants as head
 use Rattle.ss_core.specs.declared.split_core.SplitCore.{SplitCore}
 use Rattle.ss_core.specs.Calls.{OfFullLog, Steps, Makes}
-use Rattle.ss_core.specs.Effect.{Effect, effect_of, writes_record, head_effect, head_record}
-use Rattle.ss_core.specs.Reads.{OnlyReads, IsUnread, IsJudgement, IsJudged}
+use Rattle.ss_core.specs.Calls.{Effect, effect_of, writes_record, head_effect}
+use Rattle.ss_core.specs.Replies.{OnlyReads, IsUnread, IsJudgement, IsJudged}
 use Rattle.ss_core.specs.StandsFor.{IsLeftBy, AreOfHalf, StandsFor, HasClosed, HasEitherState}
 use Rattle.ss_core.proofs.Idle.{leaves_wider, doubts_none, doubts_same, unwritten, idle, stands_anew}
 use Rattle.ss_core.proofs.Images.{has_closed, own_half, end_of, image_state}
@@ -320,7 +320,7 @@ module _ {D : Type 0} (disk : Ghosts D) (s : State) (height : ℕ) (cids : List 
         keeps : Keeps disk new.disk new.hot stands.records more
         keeps = kept stands.records stands.keeps
 
-        record_is : head_record s.kept cids ≡ Some (Head height cids)
+        record_is : option_map (λ height. Head height cids) (result_ok (tipset_of (blocks_of s.kept cids))) ≡ Some (Head height cids)
         record_is = ap (λ r. option_map (λ height. Head height cids) (result_ok r)) is_head.tipset
 
         step' : (now : Option Record) → (now ≡ None) ⊎ (now ≡ Some (Head height cids)) → StandsFor new s now → Steps old new s None (call.SetHead cids) (answer.Head head.DiskFault)

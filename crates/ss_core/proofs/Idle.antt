@@ -16,7 +16,7 @@ use Rattle.ss_model.specs.declared.call.Call.{Call}
 use Rattle.ss_model.specs.declared.call.Answer.{Answer}
 use Rattle.ss_core.specs.declared.split_core.SplitCore.{SplitCore}
 use Rattle.ss_core.specs.Calls.{Steps}
-use Rattle.ss_core.specs.Effect.{Effect, Doubts, effect_of, bytes_of}
+use Rattle.ss_core.specs.Calls.{Effect, Doubts, effect_of, bytes_of}
 use Rattle.ss_core.specs.StandsFor.{IsLeftBy, AreOfHalf, StandsFor, HasEitherState, with_doubt, state_with}
 use Rattle.ss_core.proofs.Images.{image_state}
 

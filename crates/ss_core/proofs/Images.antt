@@ -9,7 +9,7 @@ use Rattle.ss_gatelog.proofs.Steps.{doubt_either, has_list}
 use Rattle.ss_records.specs.declared.record.Config.{Config as Settings}
 use Rattle.ss_records.specs.declared.record.Record.{Record}
 use Rattle.ss_store.specs.Append.{bodies}
-use Rattle.ss_hot.specs.File.{IsHalf}
+use Rattle.ss_hot.specs.Half.{IsHalf}
 use Rattle.ss_hot.proofs.Settings.{settings_stand}
 use Rattle.ss_model.specs.State.{State, closed}
 use Rattle.ss_core.specs.declared.split_core.SplitCore.{SplitCore}

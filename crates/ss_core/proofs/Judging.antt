@@ -16,7 +16,7 @@ use Rattle.ss_model.specs.Head.{answer_of, blocks_of, unread_refusal, head_refus
 use Rattle.ss_model.specs.declared.call.HeadReply.{HeadReply}
 use Rattle.ss_model.specs.declared.call.HeadReply.TheVariants as head
 use Rattle.ss_model.proofs.Heads.{unread_is}
-use Rattle.ss_core.specs.Reads.{IsFirst, IsJudged}
+use Rattle.ss_core.specs.Replies.{IsFirst, IsJudged}
 
 -- The first block is a header of this height and these parents, and none of the blocks before place i differs from it.
 pub record IsJudgedTo (kept : Kept) (cids : List (List ℕ)) (height : ℕ) (parents : List (List ℕ)) (i : ℕ) : Type 0 where

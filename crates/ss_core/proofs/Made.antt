@@ -6,15 +6,19 @@ use Rattle.ss_disk.specs.Disk.{Same, Rose}
 use Rattle.ss_disk.specs.Calls.{Goes, Touches}
 use Rattle.ss_disk.proofs.Goes.{stays, touches_none}
 use Rattle.ss_cid.specs.Cid.{identity_of}
-use Rattle.ss_model.specs.State.{empty_state}
+use Rattle.ss_hot.specs.Store.{room_of}
+use Rattle.ss_model.specs.State.{State, empty_state}
+use Rattle.ss_model.specs.Lawful.{is_disk_fault}
+use Rattle.ss_model.specs.declared.call.Call.{Call}
+use Rattle.ss_model.specs.declared.call.Answer.{Answer}
 use Rattle.ss_model.specs.declared.call.Call.TheVariants as call
 use Rattle.ss_model.specs.declared.call.Answer.TheVariants as answer
 use Rattle.ss_model.specs.declared.call.PutReply.TheVariants as put
 use Rattle.ss_model.specs.declared.call.GetReply.{GetReply}
 use Rattle.ss_model.specs.declared.call.GetReply.TheVariants as get
 use Rattle.ss_core.specs.declared.split_core.SplitCore.{SplitCore}
-use Rattle.ss_core.specs.Calls.{Makes}
-use Rattle.ss_core.specs.Effect.{Effect, no_effect, get_effect}
+use Rattle.ss_core.specs.Calls.{Makes, OfFullLog, IsUnwritten}
+use Rattle.ss_core.specs.Calls.{Effect, no_effect, get_effect, effect_of}
 
 pub never : {X : Type 0} → false ≡ true → X
 never wrong = absurd (let differ : ⊥ = cc (wrong) in differ)
@@ -27,6 +31,20 @@ counted_kept x e P (inr kept) = kept
 -- a count that rose later rose since
 pub rose_on : (was mid now : ℕ) → mid ≡ was → Rose mid now → Rose was now
 rose_on was mid now same rose = omega (arith, same, rose)
+
+-- what did nothing does over any disk, where its answer is no fault of the disk and does not tell that the log was settled
+pub idle_makes : {D : Type 0} (disk : Ghosts D) (core : SplitCore D disk) (call : Call) (answer : Answer) → is_disk_fault answer ≡ false → OfFullLog (λ file need room. (file ≡ core.hot.log.file) × (room ≡ room_of core.hot)) answer → IsUnwritten disk answer core.disk core.disk → ((s : State) → (effect_of s call answer).settles ≡ false) → Makes core core call answer
+idle_makes disk core call answer no_fault full same unsettled = record {
+  fault = λ wrong. never (sym no_fault ∙ wrong);
+  no_fault = inr refl;
+  full = full;
+  memory = λ _ _. same;
+  still = λ _. refl;
+  settled = λ s wrong. never (sym (unsettled s) ∙ wrong);
+  settings = refl;
+  file = refl;
+  touches = touches_none disk core.hot.log.file core.disk;
+}
 
 module _ {D : Type 0} (disk : Ghosts D) (old new : SplitCore D disk) (settings : new.hot.settings ≡ old.hot.settings) (file : new.hot.log.file ≡ old.hot.log.file) (touches : Touches disk old.hot.log.file old.disk new.disk) where
   pub put_stored : (v n : ℕ) (pairs : List (List ℕ × List ℕ)) → disk.faults new.disk ≡ disk.faults old.disk → new.hot.log.unsure ≡ false → Makes old new (call.Put v pairs) (answer.Put (put.Stored n))
@@ -82,25 +100,5 @@ digest_makes {E = E} disk core v c digest r copy id is = on copy is
     quiet r None e = absurd (let differ : ⊥ = cc (e) in differ)
 
     on : (copy : Result (List ℕ) E) → MatchResult copy (λ b. r ≡ get.Found b) (λ _. r ≡ get.NoMemory) → Makes core core (call.Get v c) (answer.Get r)
-    on (Ok b) is = subst (λ r. Makes core core (call.Get v c) (answer.Get r)) (sym is) (record {
-      fault = λ wrong. never wrong;
-      no_fault = inr refl;
-      full = tt;
-      memory = λ wrong. never wrong;
-      still = λ _. refl;
-      settled = λ s wrong. never (sym (ap (λ (e : Effect). e.settles) (quiet (get.Found b) (identity_of c) id)) ∙ wrong);
-      settings = refl;
-      file = refl;
-      touches = touches_none disk core.hot.log.file core.disk;
-    })
-    on (Err e) is = subst (λ r. Makes core core (call.Get v c) (answer.Get r)) (sym is) (record {
-      fault = λ wrong. never wrong;
-      no_fault = inr refl;
-      full = tt;
-      memory = λ _ _. refl;
-      still = λ _. refl;
-      settled = λ s wrong. never (sym (ap (λ (e : Effect). e.settles) (quiet get.NoMemory (identity_of c) id)) ∙ wrong);
-      settings = refl;
-      file = refl;
-      touches = touches_none disk core.hot.log.file core.disk;
-    })
+    on (Ok b) is = subst (λ r. Makes core core (call.Get v c) (answer.Get r)) (sym is) (idle_makes disk core (call.Get v c) (answer.Get (get.Found b)) refl tt refl (λ _. ap (λ (e : Effect). e.settles) (quiet (get.Found b) (identity_of c) id)))
+    on (Err e) is = subst (λ r. Makes core core (call.Get v c) (answer.Get r)) (sym is) (idle_makes disk core (call.Get v c) (answer.Get get.NoMemory) refl tt refl (λ _. ap (λ (e : Effect). e.settles) (quiet get.NoMemory (identity_of c) id)))

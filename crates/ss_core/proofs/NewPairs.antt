@@ -1,23 +1,25 @@
 -- The new pairs of a parcel, found one after another and told by their places.
-use Rattle.std.proofs.Common.{◌≡◌, ℕ, zero, suc, ◌+◌, ◌≤◌, Bool, true, false, true≢false, cond, List, [], ◌∷◌, ◌++◌, length, drop, get_or, Option, None, Some, Bor, refl, sym, ap, ◌∙◌, append_assoc, arith}
-use Rattle.std.specs.Prelude.{◌==◌, ◌||◌, not, map, is_some, slice_get}
+use Rattle.std.proofs.Common.{◌≡◌, ℕ, zero, suc, ◌+◌, ◌<◌, ◌≤◌, Bool, true, false, true≢false, cond, List, [], ◌∷◌, ◌++◌, length, drop, get_or, None, Some, refl, sym, ap, ◌∙◌, append_assoc, arith}
+use Rattle.std.specs.Prelude.{◌==◌, ◌||◌, not, map, is_some, slice_get, if◌then◌else◌}
 use Rattle.std.specs.Ordering.{nat_cmp, eq_by_cmp}
 use Rattle.std.specs.Cmp.{eq_by_cmp_equiv}
 use Rattle.std.specs.Cmp.Lexicographic.{slice_cmp, nat_list_cmp_total}
 use Rattle.std.specs.BTreeSet.{BTreeSet, contains}
-use Rattle.std.specs.Option.{option_copied}
 use Rattle.std.specs.FinMap as finite_map
 use Rattle.std.specs.FinSet as finite_set
 use Rattle.std.specs.FinSet.{contains-insert}
 use Rattle.std.proofs.Math.ListN.{drop_of_length-le}
 use Rattle.std.proofs.lemmas.List.{map-append, length-map, append-nil, drop_more}
 use Rattle.std.proofs.lemmas.Option.{slice_get_within, get_or_from_slice_get}
-use Rattle.ss_cid.specs.Cid.{identity_of}
+use Rattle.ss_cid.specs.Cid.{identity_of, hash_of, digest_of}
+use Rattle.ss_cid.specs.declared.codec.HashCode.{HashCode}
+use Rattle.ss_hash.specs.Digest.{IsDigest, IsValid}
 use Rattle.ss_store.specs.Places.{CidMap}
 use Rattle.ss_store.specs.declared.place.Place.{Place}
 use Rattle.ss_model.specs.State.{CidSet}
 use Rattle.ss_model.specs.Lawful.{is_left_out, new_pairs}
-use Rattle.ss_core.specs.Puts.{AreNoted, ArePairsAt, cids_of}
+use Rattle.ss_core.specs.Replies.{AreNoted, ArePairsAt, cids_of}
+use Rattle.ss_core.proofs.Gets.{digest_short}
 use Rattle.ss_core.proofs.Puts.{picked, fresh_few, cids_known}
 
 -- where as many are new as there are, all are
@@ -95,10 +97,14 @@ or_true false = refl
 pub noted_is : (places : CidMap Place) (pairs : List (List ℕ × List ℕ)) (noted : List Bool) (i : ℕ) (p : List ℕ × List ℕ) (d : Bool) → AreNoted places pairs noted → slice_get pairs i ≡ Some p → is_some (finite_map.get places p.0) ≡ get_or noted i d
 noted_is places pairs noted i p d are at = sym (get_or_from_slice_get noted i _ d (are i p at))
 
--- whether a CID is an identity CID, by whether a digest was lent
-pub identity_told : (lent : Option (Bor (List ℕ))) (id : Option (List ℕ)) (b : Bool) → option_copied lent ≡ id → is_some lent ≡ b → is_some id ≡ b
-identity_told None id b is has = ap is_some (sym is) ∙ has
-identity_told (Some d) id b is has = ap is_some (sym is) ∙ has
+-- the CID of a valid block that is longer is no identity CID
+pub not_identity : (c bytes : List ℕ) → IsValid c bytes → length c < length bytes → is_some (identity_of c) ≡ false
+unfolding identity_of
+not_identity c bytes valid longer = go (hash_of c == 0) valid
+  where
+    go : (b : Bool) → IsDigest (if b then HashCode.Identity else (if hash_of c == 0x12 then HashCode.Sha2x256 else if hash_of c == 0xb220 then HashCode.Blake2b256 else HashCode.Other (hash_of c))) (digest_of c) bytes → is_some (if b then Some (digest_of c) else None) ≡ false
+    go true same = absurd (omega (arith, ap (λ (l : List ℕ). length l) same, digest_short c, longer))
+    go false other = refl
 
 -- what was added was not there, and what was not added was
 pub was_there : (there added : Bool) → added ≡ not there → there ≡ not added

@@ -14,7 +14,7 @@ use Rattle.ss_store.specs.declared.place.Place.{Place}
 use Rattle.ss_hot.specs.Store.{Hot, AreNotHot}
 use Rattle.ss_model.specs.State.{Kept}
 use Rattle.ss_model.specs.Lawful.{pair_bytes, put_bytes, written_bytes, body_bytes, length_of}
-use Rattle.ss_core.specs.Puts.{held_bytes, held_put_bytes}
+use Rattle.ss_core.specs.Replies.{held_bytes, held_put_bytes}
 
 -- a sum over the pairs before a place, one pair further
 sum_next : (f : List ℕ × List ℕ → ℕ) (pairs : List (List ℕ × List ℕ)) (i : ℕ) (p : List ℕ × List ℕ) → slice_get pairs i ≡ Some p → sum_by f (take (i + 1) pairs) ≡ sum_by f (take i pairs) + f p

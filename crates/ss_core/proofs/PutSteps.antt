@@ -25,8 +25,8 @@ use Rattle.ss_model.specs.declared.call.Answer.TheVariants as answer
 use Rattle.ss_model.proofs.Need.{record_takes}
 use Rattle.ss_core.specs.declared.split_core.SplitCore.{SplitCore}
 use Rattle.ss_core.specs.Calls.{Steps}
-use Rattle.ss_core.specs.Effect.{record_of, bytes_of, put_effect}
-use Rattle.ss_core.specs.Puts.{IsLooked, cids_of, IsReady}
+use Rattle.ss_core.specs.Calls.{record_of, bytes_of, put_effect}
+use Rattle.ss_core.specs.Replies.{IsLooked, cids_of, IsReady}
 use Rattle.ss_core.specs.declared.fresh.Looked.{Looked}
 use Rattle.ss_core.specs.StandsFor.{IsLeftBy, AreOfHalf, StandsFor, HasEitherState}
 use Rattle.ss_core.proofs.Idle.{leaves_wider, doubts_none, doubts_same, unwritten, idle, stands_anew}

@@ -18,7 +18,7 @@ use Rattle.ss_store.specs.declared.place.Place.{Place}
 use Rattle.ss_model.specs.State.{Kept, CidSet}
 use Rattle.ss_model.specs.Lawful.{is_known, with_block, with_blocks, with_hot_cid, with_hot, is_left_out, new_pairs, body_bytes, put_bytes, written_bytes, pair_bytes, AreSound}
 use Rattle.ss_model.proofs.Kept.{known_is}
-use Rattle.ss_core.specs.Puts.{cids_of}
+use Rattle.ss_core.specs.Replies.{cids_of}
 
 -- exactly the kept blocks are hot
 abbrev pub AreAlike : Kept → CidSet → Type 0

@@ -9,18 +9,19 @@ use Rattle.ss_model.specs.declared.call.PutReply.TheVariants as put
 use Rattle.ss_model.specs.declared.call.Call.TheVariants as call
 use Rattle.ss_model.specs.declared.call.Answer.TheVariants as answer
 use Rattle.ss_core.specs.declared.split_core.SplitCore.{SplitCore}
-use Rattle.ss_core.specs.Calls.{Steps}
-use Rattle.ss_core.specs.Effect.{no_effect}
-use Rattle.ss_core.specs.Puts.{IsDueTo}
+use Rattle.ss_core.specs.Calls.{Steps, Makes}
+use Rattle.ss_core.specs.Calls.{no_effect}
+use Rattle.ss_core.specs.Replies.{IsRefused, IsDueTo, Puts}
 use Rattle.ss_core.specs.StandsFor.{StandsFor}
 use Rattle.ss_core.proofs.Idle.{IsIdle, idle}
+use Rattle.ss_core.proofs.Made.{idle_makes}
 
 none : IsIdle no_effect
 none = record { writes = refl; doubts = refl; needs = refl; settles = refl }
 
 -- its step leaves all as it was
 module _ {D : Type 0} (disk : Ghosts D) (core : SplitCore D disk) (s : State) (doubt : Option Record) (v : ℕ) (pairs : List (List ℕ × List ℕ)) (stands : StandsFor core s doubt) where
-  pub is_refused : (r : PutReply) → IsPutRefusal s v pairs r → Steps core core s doubt (call.Put v pairs) (answer.Put r)
+  is_refused : (r : PutReply) → IsPutRefusal s v pairs r → Steps core core s doubt (call.Put v pairs) (answer.Put r)
   is_refused put.BadView h = idle disk core core s doubt (call.Put v pairs) (answer.Put put.BadView) refl refl none stands h stands
   is_refused (put.TooMany n) h = idle disk core core s doubt (call.Put v pairs) (answer.Put (put.TooMany n)) refl refl none stands h stands
   is_refused (put.TooBig n) h = idle disk core core s doubt (call.Put v pairs) (answer.Put (put.TooBig n)) refl refl none stands h stands
@@ -33,6 +34,25 @@ module _ {D : Type 0} (disk : Ghosts D) (core : SplitCore D disk) (s : State) (d
   is_refused put.DiskFault h = absurd h.1.fault
   is_refused put.NoMemory h = absurd h.1.fault
   is_refused (put.Stored new) h = absurd h.1.fault
+
+-- over any disk its answer comes of nothing done
+module _ {D : Type 0} (disk : Ghosts D) (core : SplitCore D disk) (v : ℕ) (pairs : List (List ℕ × List ℕ)) where
+  refused : (r : PutReply) → IsRefused core v pairs r → Makes core core (call.Put v pairs) (answer.Put r) × IsDueTo core core v pairs r
+  refused put.BadView is = (idle_makes disk core (call.Put v pairs) (answer.Put put.BadView) refl tt refl (λ _. refl), (refl, is))
+  refused (put.TooMany n) is = (idle_makes disk core (call.Put v pairs) (answer.Put (put.TooMany n)) refl tt refl (λ _. refl), (refl, is))
+  refused (put.TooBig n) is = (idle_makes disk core (call.Put v pairs) (answer.Put (put.TooBig n)) refl tt refl (λ _. refl), (refl, is))
+  refused (put.TooLarge i) is = (idle_makes disk core (call.Put v pairs) (answer.Put (put.TooLarge i)) refl tt refl (λ _. refl), (refl, is))
+  refused (put.UnknownHash i) is = (idle_makes disk core (call.Put v pairs) (answer.Put (put.UnknownHash i)) refl tt refl (λ _. refl), (refl, is))
+  refused (put.Mismatch i) is = (idle_makes disk core (call.Put v pairs) (answer.Put (put.Mismatch i)) refl tt refl (λ _. refl), (refl, is))
+  refused (put.Malformed i kind at) is = (idle_makes disk core (call.Put v pairs) (answer.Put (put.Malformed i kind at)) refl tt refl (λ _. refl), (refl, is))
+  refused put.NoMemory is = absurd is.fault
+  refused (put.TableFull rows) is = absurd is.fault
+  refused (put.LogFull file need room) is = absurd is.fault
+  refused put.DiskFault is = absurd is.fault
+  refused (put.Stored new) is = absurd is.fault
+
+  pub refused_puts : (r : PutReply) → ((s : State) (doubt : Option Record) → StandsFor core s doubt → IsPutRefusal s v pairs r) → IsRefused core v pairs r → Puts core core v pairs r
+  refused_puts r decides is = record { told = λ _ s doubt stands. is_refused disk core s doubt v pairs stands r (decides s doubt stands); made = (refused r is).0; due = (refused r is).1; views = refl }
 
 -- a faulty pair refuses a parcel that fits
 pub refused_by_fault : (s : State) (v : ℕ) (pairs : List (List ℕ × List ℕ)) (r : PutReply) → IsFitting s v pairs → IsFirstFault pairs r → IsPutRefusal s v pairs r
@@ -50,16 +70,16 @@ refused_by_fault s v pairs (put.Mismatch i) fits h = (fits, h)
 refused_by_fault s v pairs (put.Malformed i kind at) fits h = (fits, h)
 
 -- over any disk
-pub due_by_fault : {D : Type 0} (disk : Ghosts D) (core : SplitCore D disk) (v : ℕ) (pairs : List (List ℕ × List ℕ)) (r : PutReply) → IsFirstFault pairs r → IsDueTo core core v pairs r
-due_by_fault disk core v pairs put.NoMemory h = absurd h.fault
-due_by_fault disk core v pairs (put.Stored new) h = absurd h.fault
-due_by_fault disk core v pairs (put.TableFull rows) h = absurd h.fault
-due_by_fault disk core v pairs (put.LogFull file need room) h = absurd h.fault
-due_by_fault disk core v pairs put.DiskFault h = absurd h.fault
-due_by_fault disk core v pairs put.BadView h = absurd h.fault
-due_by_fault disk core v pairs (put.TooMany n) h = absurd h.fault
-due_by_fault disk core v pairs (put.TooBig n) h = absurd h.fault
-due_by_fault disk core v pairs (put.TooLarge i) h = (refl, h)
-due_by_fault disk core v pairs (put.UnknownHash i) h = (refl, h)
-due_by_fault disk core v pairs (put.Mismatch i) h = (refl, h)
-due_by_fault disk core v pairs (put.Malformed i kind at) h = (refl, h)
+pub refused_anywhere : {D : Type 0} (disk : Ghosts D) (core : SplitCore D disk) (v : ℕ) (pairs : List (List ℕ × List ℕ)) (r : PutReply) → IsFirstFault pairs r → IsRefused core v pairs r
+refused_anywhere disk core v pairs put.BadView h = absurd h.fault
+refused_anywhere disk core v pairs (put.TooMany n) h = absurd h.fault
+refused_anywhere disk core v pairs (put.TooBig n) h = absurd h.fault
+refused_anywhere disk core v pairs put.NoMemory h = h
+refused_anywhere disk core v pairs (put.Stored new) h = h
+refused_anywhere disk core v pairs (put.TableFull rows) h = h
+refused_anywhere disk core v pairs (put.LogFull file need room) h = h
+refused_anywhere disk core v pairs put.DiskFault h = h
+refused_anywhere disk core v pairs (put.TooLarge i) h = h
+refused_anywhere disk core v pairs (put.UnknownHash i) h = h
+refused_anywhere disk core v pairs (put.Mismatch i) h = h
+refused_anywhere disk core v pairs (put.Malformed i kind at) h = h

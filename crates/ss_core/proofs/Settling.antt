@@ -11,7 +11,7 @@ use Rattle.ss_store.specs.Append.{bodies}
 use Rattle.ss_hot.specs.Store.{Hot, Keeps, SameButDoubt}
 use Rattle.ss_model.specs.State.{State}
 use Rattle.ss_core.specs.declared.split_core.SplitCore.{SplitCore}
-use Rattle.ss_core.specs.Puts.{Settles, doubt_after}
+use Rattle.ss_core.specs.Replies.{Settles, doubt_after}
 use Rattle.ss_core.specs.StandsFor.{StandsFor, HasEitherState, with_doubt}
 use Rattle.ss_core.proofs.Idle.{leaves_wider, stands_anew}
 use Rattle.ss_core.proofs.Images.{own_half, either_state}

@@ -1,5 +1,3 @@
 pub mod Calls
-pub mod Effect
-pub mod Reads
-pub mod Puts
+pub mod Replies
 pub mod StandsFor

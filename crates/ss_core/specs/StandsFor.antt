@@ -6,7 +6,7 @@ use Rattle.ss_disk.specs.declared.disk.Disk.{Ghosts}
 use Rattle.ss_gatelog.specs.Log.{spelled}
 use Rattle.ss_records.specs.declared.record.{Config.Config as Settings, Record.Record}
 use Rattle.ss_store.specs.Append.{bodies}
-use Rattle.ss_hot.specs.{Half.{AreInPlace, settings_of, hot_blocks, head_of, base_of}, File.IsHalf, Store.Keeps}
+use Rattle.ss_hot.specs.{Half.{AreInPlace, IsHalf, settings_of, hot_blocks, head_of, base_of}, Store.Keeps}
 use Rattle.ss_model.specs.{State.{State, closed}, Lawful.after_put, declared.call.PutReply.PutReply}
 use Rattle.ss_core.specs.declared.split_core.SplitCore.{SplitCore}
 

@@ -4,7 +4,7 @@ ghost use Rattle.std.specs.Prelude.{◌≡◌, ◌^◌, ◌<◌, ℕ, List, OnOk
 ghost use Rattle.ss_cid.specs.Cid.{codec_of, codec_named};
 ghost use Rattle.ss_model.specs.Lawful.{IsSound, AreSound, IsDagCbor, IsFirstFault, body_bytes};
 ghost use Rattle.ss_cbor.specs.Fault.{scanned};
-ghost use Rattle.ss_core.specs.Puts.{IsFaultOf, IsMalformed, refusal_of};
+ghost use Rattle.ss_core.specs.Replies.{IsFaultOf, IsMalformed, refusal_of};
 
 use ss_cbor::{CborKind, scan};
 use ss_cid::{Cid, Codec, Parcel};

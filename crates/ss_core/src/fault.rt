@@ -1,7 +1,8 @@
 //! How the fault of a store is answered.
 
 ghost use Rattle.std.specs.Prelude.{◌≡◌};
-ghost use Rattle.ss_core.specs.Reads.{IsStop, put_fault, head_fault};
+ghost use Rattle.ss_hot.specs.Store.{IsStop};
+ghost use Rattle.ss_core.specs.Replies.{put_fault, head_fault};
 
 use ss_model::{HeadReply, PutReply};
 use ss_store::StoreFault;

@@ -1,13 +1,15 @@
 //! The blocks of a parcel that are new to a store.
 
-ghost use Rattle.std.specs.Prelude.{◌<◌, ◌≤◌, length, All, IfOk};
+ghost use Rattle.std.specs.Prelude.{◌≡◌, ◌<◌, ◌≤◌, length, is_some, All, IfOk};
+ghost use Rattle.ss_cid.specs.Cid.{identity_of};
+ghost use Rattle.ss_hash.specs.Digest.{IsValid};
 ghost use Rattle.ss_store.specs.Places.{CidMap};
 ghost use Rattle.ss_store.specs.declared.place.Place.{Place};
-ghost use Rattle.ss_model.specs.Lawful.{new_pairs};
+ghost use Rattle.ss_model.specs.Lawful.{AreSound, new_pairs};
 ghost use Rattle.ss_model.specs.declared.TheConstants.{PUT_BLOCKS};
-ghost use Rattle.ss_core.specs.Puts.{AreNoted, ArePairsAt, IsFresh, cids_of};
+ghost use Rattle.ss_core.specs.Replies.{AreNoted, ArePairsAt, IsFresh, cids_of};
 
-use ss_cid::{NoMemory, Parcel};
+use ss_cid::{Cid, NoMemory, Parcel};
 use ss_model::PUT_BLOCKS;
 use std::alloc::Global;
 use std::collections::BTreeSet;
@@ -39,7 +41,8 @@ pub(crate) fn fresh_blocks(
     parcel: &Parcel,
     kept: &[bool; PUT_BLOCKS],
 ) -> Result<Fresh, NoMemory>
-    requires { length parcel.now ≤ PUT_BLOCKS }
+    requires few { length parcel.now ≤ PUT_BLOCKS }
+    requires sound { AreSound parcel.now }
     ensures { (places : CidMap Place) → AreNoted places parcel.now kept.now → IfOk result (IsFresh parcel.now (new_pairs (cids_of places) parcel.now)) }
 {
     let places = new_places(alloc, parcel, kept)?;
@@ -58,15 +61,16 @@ fn new_places(
     parcel: &Parcel,
     kept: &[bool; PUT_BLOCKS],
 ) -> Result<Vec<usize>, NoMemory>
-    requires { length parcel.now ≤ PUT_BLOCKS }
+    requires few { length parcel.now ≤ PUT_BLOCKS }
+    requires sound { AreSound parcel.now }
     ensures within { IfOk result (λ found. All (λ i. i < length parcel.now) found.items) }
     ensures new { (places : CidMap Place) → AreNoted places parcel.now kept.now → IfOk result (λ found. ArePairsAt parcel.now found.items (new_pairs (cids_of places) parcel.now)) }
 {
     let mut met = BTreeSet::new(alloc);
     let mut places = Vec::new(alloc);
     for i in 0..parcel.len() {
-        let (cid, _) = parcel.at(i);
-        if kept[i] || cid.identity().is_some() {
+        let (cid, block) = parcel.at(i);
+        if kept[i] || is_identity(&cid, block) {
             continue;
         }
         if met.insert(cid)? {
@@ -74,6 +78,14 @@ fn new_places(
         }
     }
     Ok(places)
+}
+
+// Whether a valid block's CID is an identity CID. Its digest is the block then, so the CID of a longer block is not read again.
+fn is_identity(cid: &Cid, block: &[u8]) -> bool
+    requires { IsValid cid.now block.now }
+    ensures { result ≡ is_some (identity_of cid.now) }
+{
+    block.len() <= cid.as_bytes().len() && cid.identity().is_some()
 }
 
 // A copy of the blocks at these indices.

@@ -8,7 +8,7 @@
 //! its files, from whatever state the store stands for, the answer is lawful, the store stands for the state after it, and
 //! each image since the call began has one of the two (`Steps` in `specs/Calls.antt`). `made`: over any disk, a fault is
 //! answered just where the disk counted one, and what the disk may have been asked for (`Makes`). What an answer means for the
-//! log, which record it writes and which it may leave in doubt, is one function (`specs/Effect.antt`). [`laws`] say what the
+//! log, which record it writes and which it may leave in doubt, is one function (`specs/Calls.antt`). [`laws`] say what the
 //! next run finds.
 //!
 //! All blocks that are kept are hot, in one log; the table has a row for each. A put checks each block (`blocks`), picks the

@@ -55,7 +55,7 @@ impl<D: Disk> SplitCore<D> {
     ghost use Rattle.ss_model.specs.declared.call.Call.TheVariants as call_kind;
     ghost use Rattle.ss_model.specs.declared.call.Answer.TheVariants as answer;
     ghost use Rattle.ss_core.specs.Calls.{Steps, Makes, OpensView};
-    ghost use Rattle.ss_core.specs.Puts.{Settles};
+    ghost use Rattle.ss_core.specs.Replies.{Settles};
     ghost use Rattle.ss_core.specs.StandsFor.{IsLeftBy, StandsFor};
 
     /// The store of these parts, in which no view is open. The disk is not called.

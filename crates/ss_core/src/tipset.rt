@@ -6,7 +6,7 @@ ghost use Rattle.ss_chain.specs.HeaderReading.{header_of};
 ghost use Rattle.ss_chain.specs.Tipset.{cids_fault, stands_earlier, fault_beside, same_cids};
 ghost use Rattle.ss_model.specs.Head.{answer_of};
 ghost use Rattle.ss_model.specs.declared.call.HeadReply.TheVariants as head;
-ghost use Rattle.ss_core.specs.Reads.{IsFirst, IsUnread, IsJudgement};
+ghost use Rattle.ss_core.specs.Replies.{IsFirst, IsUnread, IsJudgement};
 
 use ss_cbor::Links;
 use ss_chain::header;

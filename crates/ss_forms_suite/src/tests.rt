@@ -1,3 +1,4 @@
+mod car;
 mod cbor;
 mod chain;
 mod cid;

@@ -3,7 +3,7 @@ use Rattle.std.proofs.Common.{◌≡◌, ◌≢◌, ℕ, zero, suc, min, ◌^◌
 use Rattle.std.specs.List.{list_any}
 use Rattle.ss_model.specs.State.{State}
 use Rattle.ss_model.specs.Lawful.{Lawful, After, pairs_need}
-use Rattle.ss_model.specs.History.{Legal}
+use Rattle.ss_model.specs.Lawful.{Legal}
 use Rattle.ss_model.specs.declared.call.Call.{Call}
 use Rattle.ss_model.specs.declared.call.Call.TheVariants as call
 use Rattle.ss_model.specs.declared.call.Answer.{Answer}
@@ -14,7 +14,7 @@ use Rattle.ss_model.specs.declared.call.HeadReply.TheVariants as head
 use Rattle.ss_model.specs.declared.call.Entry.{Entry}
 use Rattle.ss_model.proofs.Need.{record_takes}
 use Rattle.ss_core.specs.Calls.{OfFullLog}
-use Rattle.ss_core.specs.Effect.{bytes_of, record_of}
+use Rattle.ss_core.specs.Calls.{bytes_of, record_of}
 use Rattle.ss_history.specs.Story.{AreRooms, HasPlace, HavePlace, faults_in, end_after, is_refused}
 
 -- a record of some blocks takes what they need

@@ -11,7 +11,7 @@ use Rattle.ss_records.specs.declared.record.Record.{Record}
 use Rattle.ss_hot.specs.Store.{room_of}
 use Rattle.ss_model.specs.State.{State}
 use Rattle.ss_model.specs.Lawful.{Lawful, After, is_disk_fault}
-use Rattle.ss_model.specs.History.{Legal, AfterAll}
+use Rattle.ss_model.specs.Lawful.{Legal, AfterAll}
 use Rattle.ss_model.specs.declared.call.Call.{Call}
 use Rattle.ss_model.specs.declared.call.Answer.{Answer}
 use Rattle.ss_model.specs.declared.call.Answer.TheVariants as answer
@@ -21,7 +21,7 @@ use Rattle.ss_model.specs.declared.call.Entry.{Entry}
 use Rattle.ss_model.proofs.Each.{after_each}
 use Rattle.ss_core.specs.declared.split_core.SplitCore.{SplitCore}
 use Rattle.ss_core.specs.Calls.{Steps, Makes, OfFullLog}
-use Rattle.ss_core.specs.Effect.{bytes_of, Doubts}
+use Rattle.ss_core.specs.Calls.{bytes_of, Doubts}
 use Rattle.ss_core.specs.StandsFor.{HasState, StandsFor, HasEitherState}
 use Rattle.ss_core.proofs.Images.{image_state}
 use Rattle.ss_history.specs.Story.{AreCounted, HasRoomsBy, IsLimit, AreRooms, AreDoubts, effect_at, faults_in, end_after, IsToldStory, Story, IsHistory, HasStore, end_behind}

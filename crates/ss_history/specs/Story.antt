@@ -2,9 +2,8 @@
 use Rattle.std.specs.{Prelude.{◌≡◌, ◌⊎◌, ℕ, List, [], ◌∷◌, Option, None, IsTrue, min, ◌+◌, ◌-◌, ◌^◌, ◌≤◌, Bool, true, false, ◌||◌, if◌then◌else◌, All}, List.list_any}
 use Rattle.ss_disk.specs.{declared.disk.Disk.Ghosts, Disk.{Files, Same}, Calls.{Goes, Touches}}
 use Rattle.ss_records.specs.declared.record.Record.{Record}
-use Rattle.ss_model.specs.{State.State, Lawful.{After, IsPassed, new_pairs, rows_after, is_disk_fault, is_log_full, is_table_full, is_no_memory}, History.{Legal, AfterAll}, declared.call.Entry.Entry, Head.{IsHead, head_need}, declared.call.Call.Call}
-use Rattle.ss_core.specs.{declared.split_core.SplitCore.SplitCore, StandsFor.{HasState, StandsFor, HasEitherState}, Calls.OfFullLog, Effect.{Effect, effect_of, bytes_of, record_of, Doubts}}
-use Rattle.ss_model.specs.declared.call.Call.TheVariants as call
+use Rattle.ss_model.specs.{State.State, Lawful.{After, IsPassed, new_pairs, rows_after, is_disk_fault, is_log_full, is_table_full, is_no_memory}, Lawful.{Legal, AfterAll}, declared.call.Entry.Entry, Head.{IsHead, head_need}, declared.call.Call.Call}
+use Rattle.ss_core.specs.{declared.split_core.SplitCore.SplitCore, StandsFor.{HasState, StandsFor, HasEitherState}, Calls.OfFullLog, Calls.{Effect, effect_of, bytes_of, record_of, Doubts}}
 
 -- what an entry means for the log, at this state
 abbrev pub effect_at : State → Entry → Effect
@@ -50,9 +49,9 @@ AreStill h = All (λ e. (s : State) → (effect_at s e).reaches ≡ false) h
 
 -- a put has a row for each block and room for its record, and so has a head room for its own
 abbrev pub HasPlace : State → ℕ → Call → Type 0
-HasPlace s end (call.Put v pairs) =
+HasPlace s end (Call.Put v pairs) =
     IsPassed s v pairs → (rows_after s pairs ≤ s.config.rows) × (bytes_of (record_of (new_pairs s.hot pairs)) ≤ s.config.limit - 1 - end)
-HasPlace s end (call.SetHead cids) = (height : ℕ) → IsHead s.kept cids height → head_need cids ≤ s.config.limit - 1 - end
+HasPlace s end (Call.SetHead cids) = (height : ℕ) → IsHead s.kept cids height → head_need cids ≤ s.config.limit - 1 - end
 HasPlace s end _ = Unit {0}
 
 -- all puts and heads of a history have

@@ -11,7 +11,7 @@ use Rattle.ss_gatelog.specs.Log.{open_gate, length_bytes, spelled, AreBodies, Fi
 use Rattle.ss_gatelog.proofs.Steps.{spelled-push, length-spelled-push, bodies_push}
 use Rattle.ss_store.specs.Append.{bodies}
 use Rattle.ss_hot.specs.Half.{IsInPlace, AreInPlace}
-use Rattle.ss_hot.specs.File.{HasSettings, IsHalf, IsBad, IsDamagedHalf}
+use Rattle.ss_hot.specs.Half.{HasSettings, IsHalf, IsBad, IsDamagedHalf}
 use Rattle.ss_hot.proofs.Grown.{bodies-push, AreInPlace-push}
 use Rattle.ss_hot.proofs.Misfits.{read_or_misfit, fits_or_not, fit_body}
 use Rattle.ss_hot.proofs.Readings.{long_file}

@@ -14,7 +14,7 @@ use Rattle.ss_records.specs.Fields.{read_record}
 use Rattle.ss_records.proofs.Records.{read_again}
 use Rattle.ss_hot.specs.declared.store.walk.Walk.{Walk}
 use Rattle.ss_hot.specs.Half.{MayStand, settings_from}
-use Rattle.ss_hot.specs.File.{HasSettings, IsFaulty}
+use Rattle.ss_hot.specs.Half.{HasSettings, IsFaulty}
 use Rattle.ss_hot.specs.Opening.{IsRead, IsMisfit}
 use Rattle.ss_hot.proofs.Opened.{same_file, faulty_first, has_settings, two_lent}
 use Rattle.ss_hot.proofs.Settings.{second_tells}

@@ -1,7 +1,6 @@
 pub mod EachReading
 mod Early
-mod Faults
-mod Fresh
+pub mod Faults
 pub mod Grown
 mod Misfits
 mod Opened

@@ -22,7 +22,7 @@ use Rattle.ss_store.specs.Append.{bodies}
 use Rattle.ss_hot.specs.declared.store.opening.Opening.{Opening}
 use Rattle.ss_hot.specs.declared.store.walk.Walk.{Walk}
 use Rattle.ss_hot.specs.Half.{AreInPlace, hot_places}
-use Rattle.ss_hot.specs.File.{HasSettings, IsHalf, IsFaulty}
+use Rattle.ss_hot.specs.Half.{HasSettings, IsHalf, IsFaulty}
 use Rattle.ss_hot.specs.Store.{Keeps}
 use Rattle.ss_hot.specs.Opening.{Gathers, IsRead, IsMisfit, HasRead, OpensSame}
 use Rattle.ss_hot.proofs.Grown.{bodies-push}
@@ -207,6 +207,12 @@ module _ {D : Type 0} (disk : Ghosts D) where
       faulty_unfit old.records.limit at (disk.files was old.file) records
       (record { rest = leads.rest; is = ap (disk.files was) (sym is) ∙ leads.is; place = here ∙ leads.place; bodies = leads.bodies; within = omega (arith, here, leads.within) })
       had.gathers.in_place (subst (λ (f : List ℕ). IsDamaged old.records.limit f at) (same_file was now old.records old.file told goes is) damaged)
+
+  -- which the file had when its opening began
+  pub faulty_before : (was now : D) (old new : Opening) (at : ℕ) → IsTrue disk.told → Goes disk Same was now → OpensSame old new → IsFaulty new.records.limit (disk.files now new.file) at → IsFaulty old.records.limit (disk.files was old.file) at
+  faulty_before was now old new at told goes same faulty =
+      subst (λ (n : ℕ). IsFaulty n (disk.files was old.file) at) same.records.limit
+      (subst (λ (f : List ℕ). IsFaulty new.records.limit f at) (ap (λ (f : Files). f new.file) (goes.files told) ∙ ap (disk.files was) same.file) faulty)
 
   -- one record more
   pub read_on : (was now : D) (old new : Opening) (records : List Record) (at : ℕ) (body : List ℕ) → HasRead disk was old records → new.file ≡ old.file → body ≡ new.records.body → at ≡ old.records.at → HasLent disk now new.records (bodies records ++ new.records.body ∷ [])

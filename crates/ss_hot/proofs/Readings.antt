@@ -13,7 +13,7 @@ use Rattle.ss_gatelog.proofs.Steps.{spelled-push, bodies_push}
 use Rattle.ss_gatelog.proofs.Lists.{GoesOn, compared, closed_ends, unfit_ends, one_list, list_or_damaged}
 use Rattle.ss_store.specs.Append.{bodies}
 use Rattle.ss_hot.specs.Half.{IsInPlace, AreInPlace}
-use Rattle.ss_hot.specs.File.{HasSettings, IsHalf, IsBad, IsFaulty, IsDamagedHalf}
+use Rattle.ss_hot.specs.Half.{HasSettings, IsHalf, IsBad, IsFaulty, IsDamagedHalf}
 
 -- a reading is of one record
 pub one_result : (r s : Record) (read : Result Record ℕ) → read ≡ Ok r → read ≡ Ok s → r ≡ s

@@ -5,7 +5,7 @@ use Rattle.ss_disk.specs.Disk.{Files}
 use Rattle.ss_gatelog.specs.Log.{spelled, AreBodies, Spells}
 use Rattle.ss_records.specs.declared.record.Record.{Record}
 use Rattle.ss_store.specs.Append.{bodies}
-use Rattle.ss_hot.specs.File.{IsHalf}
+use Rattle.ss_hot.specs.Half.{IsHalf}
 use Rattle.ss_hot.specs.Store.{Hot, Tells, IsPlaced, Keeps}
 use Rattle.ss_hot.proofs.Settings.{settings_stand}
 use Rattle.ss_hot.proofs.Writes.{sure_of}

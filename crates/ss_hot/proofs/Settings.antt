@@ -13,7 +13,7 @@ use Rattle.ss_gatelog.proofs.Lists.{compared, closed_ends}
 use Rattle.ss_gatelog.proofs.Steps.{spelled-append, spelled-push}
 use Rattle.ss_store.specs.Append.{bodies}
 use Rattle.ss_hot.specs.Half.{MayStand, AreInPlace, settings_from, settings_of}
-use Rattle.ss_hot.specs.File.{HasSettings}
+use Rattle.ss_hot.specs.Half.{HasSettings}
 
 -- the bytes of the second record's body are a part of the file
 pub second_part : (file : List ℕ) (settings : Settings) (has : HasSettings file settings) → (at : ℕ) × (take (length has.second) (drop at file) ≡ has.second)

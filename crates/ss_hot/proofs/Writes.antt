@@ -7,7 +7,9 @@ use Rattle.std.specs.FinMap as finite_map
 use Rattle.ss_disk.specs.declared.disk.Disk.{Ghosts}
 use Rattle.ss_disk.specs.Calls.{Touches, Leaves}
 use Rattle.ss_disk.proofs.Goes.{leaves_none, touches_on}
+use Rattle.ss_gatelog.specs.Log.{spelled}
 use Rattle.ss_gatelog.specs.GateLog.{Log, IsSure, IsDoubted, Stands, HasEither}
+use Rattle.ss_gatelog.proofs.Steps.{length-spelled-at}
 use Rattle.ss_records.specs.declared.record.Config.{Config as Settings}
 use Rattle.ss_records.specs.declared.record.Record.{Record}
 use Rattle.ss_records.specs.declared.record.Record.TheVariants.{Config, Generation, Put}
@@ -17,8 +19,8 @@ use Rattle.ss_store.specs.Places.{CidMap, with_pairs, without_cids}
 use Rattle.ss_store.specs.Append.{bodies, Appends}
 use Rattle.ss_store.specs.declared.fault.StoreFault.{StoreFault}
 use Rattle.ss_hot.specs.Half.{hot_places}
-use Rattle.ss_hot.specs.Store.{Hot, IsPlaced, Keeps, IsWithin, Writes}
-use Rattle.ss_hot.proofs.Fresh.{within_limit}
+use Rattle.ss_hot.specs.Store.{Hot, IsPlaced, Keeps, IsWithin, Writes, first_records}
+use Rattle.ss_hot.proofs.Sizes.{length-Generation, length-Config}
 use Rattle.ss_store.proofs.Pairs.{Each-with, Each-without}
 use Rattle.ss_store.proofs.Placing.{placed_all, placed-before, length-Put, LiesBefore}
 use Rattle.ss_hot.proofs.Grown.{next, tells_next, IsLater}
@@ -91,8 +93,18 @@ module _ {D : Type 0} (disk : Ghosts D) where
   touches_log file old mid new log same first second = touches_on disk file old mid new first (subst (λ (f : ℕ). Touches disk f mid new) same second)
 
   -- a store in which nothing is kept
-  pub keeps_new : (new : D) (settings : Settings) (log : Log) → SettingsFit settings → log.limit ≡ settings.limit → log.unsure ≡ false → IsSure disk new log (bodies (Generation 1 ∷ Config settings ∷ []))
-      → Keeps disk new (record { settings = settings; log = log; places = finite_map.empty; head = None; base = (0, 0) }) (Generation 1 ∷ Config settings ∷ []) []
+  within_limit : (settings : Settings) → SettingsFit settings → length (spelled (bodies (first_records settings))) < settings.limit
+  within_limit settings fit = omega (
+    arith,
+    length-spelled-at [] (spelling (Config settings) ∷ []) (spelling (Generation 1)),
+    length-spelled-at [] [] (spelling (Config settings)),
+    fit.limit.0,
+    length-Generation 1,
+    length-Config settings,
+  )
+
+  pub keeps_new : (new : D) (settings : Settings) (log : Log) → SettingsFit settings → log.limit ≡ settings.limit → log.unsure ≡ false → IsSure disk new log (bodies (first_records settings))
+      → Keeps disk new (record { settings = settings; log = log; places = finite_map.empty; head = None; base = (0, 0) }) (first_records settings) []
   keeps_new new settings log fit limit sure is = record {
     tells = record {
       in_place = (record { fits = omega arith; value = omega arith; may_stand = tt }, (record { fits = fit; value = tt; may_stand = tt }, tt));
@@ -102,7 +114,7 @@ module _ {D : Type 0} (disk : Ghosts D) where
       base = refl;
     };
     placed = (limit, omega (arith, is.end, within_limit settings fit));
-    stands = of_sure new log (bodies (Generation 1 ∷ Config settings ∷ [])) [] sure is;
+    stands = of_sure new log (bodies (first_records settings)) [] sure is;
   }
 
 -- a log that goes on holds the same places

@@ -1,4 +1,3 @@
 pub mod Half
-pub mod File
 pub mod Store
 pub mod Opening

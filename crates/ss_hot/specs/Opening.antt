@@ -1,5 +1,5 @@
 -- How far the opening of a file came, and what its walk over the records has gathered.
-use Rattle.std.specs.Prelude.{◌≡◌, ◌+◌, ◌^◌, ◌<◌, ◌≤◌, List, length, ℕ, [], ◌∷◌, Some, Ok}
+use Rattle.std.specs.Prelude.{◌≡◌, ◌+◌, ◌^◌, ◌<◌, ◌≤◌, List, IsTrue, length, ℕ, [], ◌∷◌, Some, Ok}
 use Rattle.ss_disk.specs.declared.disk.Disk.{Ghosts}
 use Rattle.ss_gatelog.specs.{Log.longest_body, Gate.{HasLent, ReadsSame}}
 use Rattle.ss_records.specs.{declared.record.Record.Record, Record.spelling, Fields.read_record}
@@ -58,9 +58,30 @@ pub record OpensSame (old new : Opening) : Type 0 where
   pub records : ReadsSame old.records new.records
 
 -- one record more was read, with a gate after it
-pub record Passes (old new : Opening) : Type 0 where
+pub record Passes {D : Type 0} (disk : Ghosts D) (now : D) (old new : Opening) : Type 0 where
+  pub under_way : IsUnderWay disk now new
+  pub same : OpensSame old new
   pub at : new.records.at ≡ old.records.at + 5 + length new.records.body
   pub short : length new.records.body ≤ longest_body
   pub inside : new.records.at < new.records.size
   pub within : new.records.at < new.records.limit
   pub count : new.walk.count ≡ old.walk.count + 1
+
+-- no record of the file was read
+pub record IsAtStart {D : Type 0} (disk : Ghosts D) (now : D) (number : ℕ) (opening : Opening) : Type 0 where
+  pub file : opening.file ≡ number
+  pub at : opening.records.at ≡ 0
+  pub count : opening.walk.count ≡ 0
+  pub limit : opening.records.limit ≡ 2 ^ 40
+  pub under_way : IsUnderWay disk now opening
+  pub before : AreBefore number opening.walk.index 0
+  pub read : IsTrue disk.told → HasRead disk now opening []
+
+-- a generation and settings of the file were read
+pub record HasBegun {D : Type 0} (disk : Ghosts D) (now : D) (number : ℕ) (opening : Opening) : Type 0 where
+  pub file : opening.file ≡ number
+  pub at : opening.records.at ≡ 54
+  pub inside : 54 < opening.records.size
+  pub under_way : IsUnderWay disk now opening
+  pub before : AreBefore opening.file opening.walk.index 54
+  pub read : IsTrue disk.told → (records : List Record) × HasRead disk now opening records

@@ -1,10 +1,10 @@
 -- What a hot store tells, what it stands for over a disk, and what a call that writes one record does to both.
-use Rattle.std.specs.{Prelude.{◌≡◌, ℕ, ◌+◌, ◌-◌, ◌<◌, ◌≤◌, List, All, Option, Some, None, ◌⊎◌, false, [], ◌∷◌, ◌++◌, length, Result, Err, IsOk, OnOk, OnErr, Bool, refl}, Coded.{Coded, code_by, coded×, coded_ℕ, coded_bool, coded_list, coded_option}}
-use Rattle.ss_disk.specs.{declared.disk.Disk.Ghosts, Calls.{Touches, Leaves}}
+use Rattle.std.specs.{Prelude.{◌≡◌, ℕ, ◌+◌, ◌-◌, ◌<◌, ◌≤◌, List, All, Option, Some, None, ◌⊎◌, IsTrue, false, [], ◌∷◌, ◌++◌, length, Result, Err, IsOk, OnOk, OnErr, Bool, refl}, Coded.{Coded, code_by, coded×, coded_ℕ, coded_bool, coded_list, coded_option}}
+use Rattle.ss_disk.specs.{declared.disk.Disk.Ghosts, Disk.Same, Calls.{Goes, Touches, Leaves}}
 use Rattle.ss_gatelog.specs.GateLog.{Log, Stands, CountsFault, HasEither}
-use Rattle.ss_records.specs.{declared.record.Config.Config as Settings, declared.record.Record.Record, Record.spelling}
+use Rattle.ss_records.specs.{declared.record.Config.Config as Settings, declared.record.Record.Record, Record.{spelling, SettingsFit}}
 use Rattle.ss_store.specs.{declared.place.Place.Place, Places.{CidMap, places_code}, Append.bodies, declared.fault.StoreFault.StoreFault}
-use Rattle.ss_hot.specs.Half.{AreInPlace, settings_of, head_of, base_of, hot_places}
+use Rattle.ss_hot.specs.Half.{AreInPlace, IsHalf, settings_of, head_of, base_of, hot_places}
 use Rattle.std.specs.FinMap as finite_map
 use Rattle.ss_records.specs.contracts.record.Config as settings
 
@@ -82,6 +82,43 @@ pub record Writes {D : Type 0} (disk : Ghosts D) (was now : D) (old new : Hot) (
   pub counts : CountsFault StoreFault.DiskFault (disk.faults was) (disk.faults now) result
   pub known : IsKnown disk now new
   pub touches : Touches disk old.log.file was now
+
+-- the records of a store in which nothing is kept
+abbrev pub first_records : Settings → List Record
+first_records settings = Record.Generation 1 ∷ Record.Config settings ∷ []
+
+-- The log is sure, in this file, with the settings' limit, and its end lies within the known length.
+pub record IsSettled {D : Type 0} (disk : Ghosts D) (now : D) (file : ℕ) (store : Hot) : Type 0 where
+  pub sure : store.log.unsure ≡ false
+  pub log : (store.log.file ≡ file) × (store.log.limit ≡ store.settings.limit)
+  pub known : IsKnown disk now store
+
+-- A store that was opened. Where the disk exposes its files, it stands for the records that the file had.
+pub record IsOpened {D : Type 0} (disk : Ghosts D) (was now : D) (file : ℕ) (store : Hot) : Type 0 where
+  pub keeps : IsTrue disk.told → (records : List Record) × IsHalf (disk.files was file) store.settings records × Keeps disk now store records []
+  pub fits : SettingsFit store.settings
+  pub settled : IsSettled disk now file store
+
+-- A store with these settings in which nothing is kept. Where the disk exposes its files, it stands for its first records.
+pub record IsNew {D : Type 0} (disk : Ghosts D) (now : D) (config : Settings) (store : Hot) : Type 0 where
+  pub keeps : IsTrue disk.told → Keeps disk now store (first_records config) []
+  pub settings : store.settings ≡ config
+  pub places : store.places ≡ finite_map.empty
+  pub settled : IsSettled disk now 0 store
+
+-- a fault where nothing is to be written
+abbrev pub IsOpeningFault : StoreFault → Type 0
+IsOpeningFault fault = (file need room : ℕ) → fault ≡ StoreFault.LogFull file need room → ⊥
+
+-- what may stop any call: out of memory, or a fault of the disk
+abbrev pub IsStop : StoreFault → Type 0
+IsStop fault = (fault ≡ StoreFault.NoMemory) ⊎ (fault ≡ StoreFault.DiskFault)
+
+-- Over any disk: no file changes, the count of faults rises just where the answer is the disk's fault, and a fault is one of these.
+pub record Reads {D T : Type 0} (disk : Ghosts D) (was now : D) (faults : StoreFault → Type 0) (result : Result T StoreFault) : Type 0 where
+  pub errors : (fault : StoreFault) → result ≡ Err fault → faults fault
+  pub goes : Goes disk Same was now
+  pub counts : CountsFault StoreFault.DiskFault (disk.faults was) (disk.faults now) result
 
 -- how logs and stores are told apart
 abbrev pub log_code : Coded Log

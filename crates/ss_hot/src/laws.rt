@@ -5,7 +5,7 @@ ghost use Rattle.ss_disk.specs.Disk.{Files};
 ghost use Rattle.ss_gatelog.specs.Log.{spelled};
 ghost use Rattle.ss_records.specs.declared.record.Config.{Config as Settings};
 ghost use Rattle.ss_records.specs.declared.record.Record.{Record};
-ghost use Rattle.ss_hot.specs.File.{HasSettings, IsHalf, IsDamagedHalf};
+ghost use Rattle.ss_hot.specs.Half.{HasSettings, IsHalf, IsDamagedHalf};
 ghost use Rattle.ss_store.specs.Append.{bodies};
 ghost use Rattle.ss_hot.specs.Half.{hot_blocks, hot_places};
 ghost use Rattle.ss_hot.specs.Store.{Hot, Keeps};

@@ -9,7 +9,7 @@
 //! The one contract: a call that writes, as [`HotStore::put_batch`], appends one record or leaves the list as it
 //! was, and every image since its start has the one list or the other, whatever the answer. [`HotStore::open`]
 //! reads the file in one pass, and gives the store of exactly the records that it has; or None, where no settings are
-//! committed in it; or the place of the first record at fault (`specs/File.antt`). [`HotStore::is_committed`] tells by
+//! committed in it; or the place of the first record at fault (`specs/Half.antt`). [`HotStore::is_committed`] tells by
 //! the first two records whether there is a store. A new store is made by its [`FirstRecords`], which take all memory
 //! before the file is touched.
 //!

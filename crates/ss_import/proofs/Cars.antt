@@ -33,18 +33,12 @@ longer front roots sections is rest more ending h = record {
 
 -- the header alone
 pub taken_start : (old new : Option (List ℕ)) (roots : List (List ℕ)) (taken : ℕ) → TakesStart old new roots taken → HasTaken old new roots [] taken
-taken_start old new roots taken is = record {
-  front = is.bytes;
-  is_car = record { start = is.bytes; rest = []; spelled = sym (append-nil is.bytes); is_start = is.is; are_sections = car.AreSections.end };
-  consumed = is.consumed;
-  count = is.count;
-}
-
-consumes_more : (a b c : Option (List ℕ)) (bs cs : List ℕ) → Consumes a b bs → Consumes b c cs → Consumes a c (bs ++ cs)
-consumes_more None b c bs cs p q = tt
-consumes_more (Some x) None c bs cs p q = absurd p
-consumes_more (Some x) (Some y) None bs cs p q = absurd q
-consumes_more (Some x) (Some y) (Some z) bs cs p q = p ∙ ap (λ l. bs ++ l) q ∙ sym (append_assoc bs cs z)
+taken_start None new roots taken is = λ bytes none. absurd (let wrong : ⊥ = cc (none) in wrong)
+taken_start (Some bytes) None roots taken is = absurd is.consumed
+taken_start (Some bytes) (Some left) roots taken is = λ all same.
+    let eq : bytes ≡ all = cc (same) in
+    let car : IsCar is.bytes roots [] None = record { start = is.bytes; rest = []; spelled = sym (append-nil is.bytes); is_start = is.is; are_sections = car.AreSections.end } in
+    (record { front = is.bytes; rest = left; spelled = sym eq ∙ is.consumed; is_car = car; end_is = is.count }, refl)
 
 one_section : (at : ℕ) (cid block : List ℕ) → IsSection (framed (cid ++ block)) cid block → AreSections at (framed (cid ++ block)) (record { offset = at; cid = cid; block = block } ∷ []) None
 one_section at cid block is = car.AreSections.more (framed (cid ++ block)) [] cid block (sym (append-nil (framed (cid ++ block)))) is car.AreSections.end
@@ -52,37 +46,39 @@ one_section at cid block is = car.AreSections.more (framed (cid ++ block)) [] ci
 -- one section more
 pub taken_more : (old mid new : Option (List ℕ)) (roots : List (List ℕ)) (sections : List Section) (taken now : ℕ) (cid block : List ℕ) → HasTaken old mid roots sections taken → TakesSection mid new cid block → now ≡ taken + length (framed (cid ++ block))
     → HasTaken old new roots (sections ++ record { offset = taken; cid = cid; block = block } ∷ []) now
-taken_more old mid new roots sections taken now cid block was is count = record {
-  front = was.front ++ framed (cid ++ block);
-  is_car = subst (λ n. IsCar (was.front ++ framed (cid ++ block)) roots (sections ++ record { offset = n; cid = cid; block = block } ∷ []) None) (sym was.count)
-      (longer was.front roots sections was.is_car (framed (cid ++ block)) _ None (one_section (length was.front) cid block is.is));
-  consumed = consumes_more old mid new was.front (framed (cid ++ block)) was.consumed is.consumed;
-  count = count ∙ ap (λ n. n + length (framed (cid ++ block))) was.count ∙ sym (length-append was.front (framed (cid ++ block)));
-}
-
--- what was taken is the front of the input
-pub begins : (old new : Option (List ℕ)) (roots : List (List ℕ)) (sections : List Section) (taken : ℕ) → HasTaken old new roots sections taken → ForSome old (λ bytes. BeginsWith bytes roots sections taken)
-begins None new roots sections taken was = λ bytes no. absurd (let wrong : ⊥ = cc (no) in wrong)
-begins (Some bytes) None roots sections taken was = absurd was.consumed
-begins (Some bytes) (Some left) roots sections taken was = λ all is.
-    subst (λ b. BeginsWith b roots sections taken) (let same : bytes ≡ all = cc (is) in same)
-    (record { front = was.front; rest = left; spelled = was.consumed; is_car = was.is_car; end_is = was.count })
+taken_more old mid new roots sections taken now cid block was is count = λ all same.
+    let begun = (was all same).0 in by all begun new (subst (λ m. Consumes m new (framed (cid ++ block))) (was all same).1 is.consumed)
+  where
+    by : (all : List ℕ) (begun : BeginsWith all roots sections taken) (new : Option (List ℕ)) → Consumes (Some begun.rest) new (framed (cid ++ block))
+        → (later : BeginsWith all roots (sections ++ record { offset = taken; cid = cid; block = block } ∷ []) now) × (new ≡ Some later.rest)
+    by all begun None gone = absurd gone
+    by all begun (Some left) consumed = (
+      record {
+        front = begun.front ++ framed (cid ++ block);
+        rest = left;
+        spelled = begun.spelled ∙ ap (λ l. begun.front ++ l) consumed ∙ sym (append_assoc begun.front (framed (cid ++ block)) left);
+        is_car = subst (λ n. IsCar (begun.front ++ framed (cid ++ block)) roots (sections ++ record { offset = n; cid = cid; block = block } ∷ []) None) (sym begun.end_is)
+            (longer begun.front roots sections begun.is_car (framed (cid ++ block)) _ None (one_section (length begun.front) cid block is.is));
+        end_is = count ∙ ap (λ n. n + length (framed (cid ++ block))) begun.end_is ∙ sym (length-append begun.front (framed (cid ++ block)));
+      },
+      refl,
+    )
 
 -- the input ended behind it
 pub whole : (old new : Option (List ℕ)) (roots : List (List ℕ)) (sections : List Section) (taken : ℕ) → HasTaken old new roots sections taken → IsAtEnd new → IsWhole old roots sections
-whole None new roots sections taken was ended = λ bytes no. absurd (let wrong : ⊥ = cc (no) in wrong)
-whole (Some bytes) None roots sections taken was ended = absurd was.consumed
-whole (Some bytes) (Some left) roots sections taken was ended = λ all is.
-    subst (λ b. IsCar b roots sections None) (sym (was.consumed ∙ ap (λ l. was.front ++ l) ended ∙ append-nil was.front) ∙ (let same : bytes ≡ all = cc (is) in same)) was.is_car
+whole old new roots sections taken was ended = λ all same.
+    let begun = (was all same).0 in
+    let none : begun.rest ≡ [] = subst IsAtEnd (was all same).1 ended in
+    subst (λ b. IsCar b roots sections None) (sym (begun.spelled ∙ ap (λ l. begun.front ++ l) none ∙ append-nil begun.front)) begun.is_car
 
 -- the CAR is at fault behind it
 pub refused : (old new : Option (List ℕ)) (roots : List (List ℕ)) (sections : List Section) (taken : ℕ) (fault : CarFault) → HasTaken old new roots sections taken → ForSome new (λ bytes. NextFault bytes fault)
     → ForSome old (λ bytes. IsCar bytes roots sections (Some (record { fault = fault; offset = taken })))
-refused None new roots sections taken fault was is = λ bytes no. absurd (let wrong : ⊥ = cc (no) in wrong)
-refused (Some bytes) None roots sections taken fault was is = absurd was.consumed
-refused (Some bytes) (Some left) roots sections taken fault was is = λ all same.
-    let next = is left refl in
+refused old new roots sections taken fault was is = λ all same.
+    let begun = (was all same).0 in
+    let left = begun.rest in
+    let next = is left (was all same).1 in
     let ending : Option CarRefusal = Some (record { fault = fault; offset = taken }) in
-    let here : AreSections (length was.front) left [] ending = subst (λ n. AreSections n left [] ending) was.count (car.AreSections.refused next.0 next.1) in
-    subst (λ b. IsCar b roots sections ending) (sym was.consumed ∙ (let eq : bytes ≡ all = cc (same) in eq))
-    (subst (λ l. IsCar (was.front ++ left) roots l ending) (append-nil sections) (longer was.front roots sections was.is_car left [] ending here))
+    let here : AreSections (length begun.front) left [] ending = subst (λ n. AreSections n left [] ending) begun.end_is (car.AreSections.refused next.0 next.1) in
+    subst (λ b. IsCar b roots sections ending) (sym begun.spelled)
+    (subst (λ l. IsCar (begun.front ++ left) roots l ending) (append-nil sections) (longer begun.front roots sections begun.is_car left [] ending here))

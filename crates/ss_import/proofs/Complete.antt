@@ -1,5 +1,5 @@
 -- An import that nothing stands in the way of comes to its end, or runs out of memory.
-use Rattle.std.proofs.Common.{◌≡◌, ◌⊎◌, inl, inr, ⊎_elim, ℕ, zero, suc, ◌+◌, ◌-◌, ◌<◌, ◌≤◌, Bool, true, false, ◌||◌, List, [], ◌∷◌, ◌++◌, map, length, Option, Some, None, Result, Ok, Err, refl, sym, ap, ◌∙◌, subst, arith, append_assoc, length-append, true≢false}
+use Rattle.std.proofs.Common.{◌≡◌, ◌⊎◌, inl, inr, ⊎_elim, ℕ, zero, suc, ◌+◌, ◌<◌, ◌≤◌, Bool, true, false, ◌||◌, List, [], ◌∷◌, ◌++◌, map, length, Option, Some, None, Result, Ok, Err, refl, sym, ap, ◌∙◌, subst, arith, append_assoc, length-append, true≢false}
 use Rattle.std.specs.Option.{option_or}
 use Rattle.std.specs.Prelude.{IsOk, option_map}
 use Rattle.std.specs.List.{list_any}
@@ -13,7 +13,7 @@ use Rattle.ss_chain.specs.Tipset.{fault_in, tipset_of}
 use Rattle.ss_model.specs.State.{State, Kept}
 use Rattle.ss_model.specs.Head.{IsHead, head_refusal, answer_of, blocks_of}
 use Rattle.ss_model.specs.Lawful.{LawfulHead, After, AreSound, IsSound, IsSmall, with_blocks, put_bytes, length_of}
-use Rattle.ss_model.specs.History.{Legal, AfterAll}
+use Rattle.ss_model.specs.Lawful.{Legal, AfterAll}
 use Rattle.ss_model.specs.declared.TheConstants.{PUT_BYTES}
 use Rattle.ss_model.specs.declared.call.Call.TheVariants as call
 use Rattle.ss_model.specs.declared.call.Answer.TheVariants as answer
@@ -30,8 +30,8 @@ use Rattle.ss_import.specs.declared.fault.BlockFault.TheVariants as block
 use Rattle.ss_import.specs.declared.fault.ImportFault.{ImportFault}
 use Rattle.ss_import.specs.declared.fault.ImportFault.TheVariants as import
 use Rattle.ss_import.specs.declared.importer.Imported.{Imported}
-use Rattle.ss_import.specs.Import.{entry, pair_of, ArePuts, IsLastPut, IsLastHead, AreRead, IsWhole, EndsPuts, EndsReading, EndsHead, IsBlockFault, IsImport, AreCalls, AreSmall, IsImportable}
-use Rattle.ss_import.proofs.Kept.{HasStored, puts_keep, blocks_small}
+use Rattle.ss_import.specs.Import.{entry, pair_of, ArePuts, IsLastPut, IsLastHead, AreRead, IsWhole, EndsPuts, EndsReading, EndsHead, IsBlockFault, IsImport, AreCalls, IsImportable}
+use Rattle.ss_import.proofs.Kept.{AreSmall, HasStored, puts_keep, blocks_small}
 use Rattle.ss_import.proofs.Puts.{puts_read, puts_before}
 use Rattle.ss_import.proofs.Putting.{opened}
 use Rattle.ss_import.proofs.Unsound.{not_unknown, not_mismatch, not_malformed}

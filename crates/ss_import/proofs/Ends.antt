@@ -4,7 +4,7 @@ use Rattle.std.specs.Prelude.{IsTrue}
 use Rattle.std.proofs.lemmas.List.{append-nil}
 use Rattle.ss_disk.specs.declared.disk.Disk.{Ghosts}
 use Rattle.ss_car.specs.Car.{Section, StartFault}
-use Rattle.ss_car.specs.Bodies.{Blames, FaultHasCause}
+use Rattle.ss_car.specs.Bodies.{Blames}
 use Rattle.ss_car.specs.declared.fault.CarFault.{CarFault}
 use Rattle.ss_car.specs.declared.fault.CarFault.TheVariants as car
 use Rattle.ss_records.specs.declared.record.Record.{Record}
@@ -19,40 +19,15 @@ use Rattle.ss_core.specs.StandsFor.{StandsFor}
 use Rattle.ss_history.specs.Story.{Story}
 use Rattle.ss_history.proofs.Stories.{story_more}
 use Rattle.ss_import.specs.declared.fault.ImportFault.{ImportFault}
-use Rattle.ss_import.specs.declared.fault.ImportFault.TheVariants as import
 use Rattle.ss_import.specs.declared.importer.Imported.{Imported}
 use Rattle.ss_import.specs.declared.importer.Importer.{Importer}
-use Rattle.ss_import.specs.Import.{fault_at, entry, AreRead, IsWhole, EndsReading, EndsHead, IsImport, CountsSource}
-use Rattle.ss_import.specs.Steps.{Putting, WasRead, Ended, FaultCounts}
+use Rattle.ss_import.specs.Import.{fault_at, entry, AreRead, IsWhole, EndsReading, EndsHead, IsImport}
+use Rattle.ss_import.specs.Steps.{Putting, WasRead, Ended}
 use Rattle.ss_import.proofs.Putting.{opened}
 
 -- all bytes were read
 all_read : (input : Option (List ℕ)) (roots : List (List ℕ)) (sections : List Section) → IsWhole input roots sections → AreRead input roots sections
 all_read input roots sections whole = inr (λ bytes is. (_, record { front = bytes; rest = []; spelled = sym (append-nil bytes); is_car = whole bytes is; end_is = refl }))
-
--- the source's count of faults, by the fault that ends an import
-pub fault_counts : (before now : ℕ) (fault : ImportFault) → FaultCounts before now fault → CountsSource before now (Err fault)
-fault_counts before now import.ReadFault counts = counts
-fault_counts before now import.NoMemory counts = counts
-fault_counts before now import.DiskFault counts = counts
-fault_counts before now (import.BadCar f offset) counts = counts
-fault_counts before now (import.BadBlock f offset) counts = counts
-fault_counts before now (import.LogFull file need room) counts = counts
-fault_counts before now (import.TableFull rows) counts = counts
-fault_counts before now import.TooLong counts = counts
-fault_counts before now (import.BadHead reply) counts = counts
-
--- the same, by the fault of the header
-pub header_counts : (before now : ℕ) (f : CarFault) (offset : ℕ) → FaultHasCause before now f → CountsSource before now (Err (fault_at f offset))
-header_counts before now car.ReadFault offset cause = cause
-header_counts before now car.NoMemory offset cause = cause
-header_counts before now car.Truncated offset cause = cause
-header_counts before now car.BadHeader offset cause = cause
-header_counts before now (car.BadVersion version) offset cause = cause
-header_counts before now car.ZeroSection offset cause = cause
-header_counts before now car.TooLarge offset cause = cause
-header_counts before now car.BadCid offset cause = cause
-header_counts before now car.BadLength offset cause = cause
 
 -- why the header ends an import
 header_ends : (input : Option (List ℕ)) (f : CarFault) (offset : ℕ) → offset ≡ 0 → Blames StartFault input f → EndsReading input [] [] [] (fault_at f offset)
@@ -84,18 +59,32 @@ module _ {D : Type 0} {disk : Ghosts D} (wants : Bool) (input : Option (List ℕ
 
   -- the import ended before its sections were all put
   pub early : (fault : ImportFault) → Ended input was imp fault → IsImport (Story was imp.core) wants input (Err fault)
-  early fault ends = record {
-    view = imp.view;
-    roots = ends.roots;
-    sections = ends.sections;
-    left = ends.left;
-    puts = ends.puts;
-    last = ends.last;
-    did = ends.story;
-    read = ends.read;
-    are_puts = ends.are_puts;
-    reason = ⊎_elim (λ by_put. inl by_put) (λ by_car. inr (inl by_car)) ends.reason;
-  }
+  early fault ends = ⊎_elim
+      (λ by_put. record {
+        view = imp.view;
+        roots = ends.roots;
+        sections = ends.sections;
+        left = by_put.left;
+        puts = by_put.puts;
+        last = by_put.last;
+        did = by_put.story;
+        read = ends.read;
+        are_puts = by_put.are_puts;
+        reason = inl by_put.reason;
+      })
+      (λ by_car. record {
+        view = imp.view;
+        roots = ends.roots;
+        sections = ends.sections;
+        left = by_car.0;
+        puts = by_car.1.puts;
+        last = [];
+        did = subst (λ h. Story was imp.core (opened imp.view ∷ h)) (sym (append-nil by_car.1.puts)) by_car.1.story;
+        read = ends.read;
+        are_puts = by_car.1.are_puts;
+        reason = inr (inl (refl, by_car.2));
+      })
+      ends.reason
 
 module _ {D : Type 0} {disk : Ghosts D} (input : Option (List ℕ)) (was : D) (imp : Importer D disk) (roots : List (List ℕ)) (read : WasRead input was imp roots) where
   -- no head is set

@@ -1,5 +1,5 @@
 -- What is kept along an import, and that its blocks are small.
-use Rattle.std.proofs.Common.{◌≡◌, ◌⊎◌, inl, inr, ⊎_elim, ℕ, suc, ◌+◌, Bool, true, false, cond, List, [], ◌∷◌, ◌++◌, map, Some, refl, sym, ap, ◌∙◌, subst, arith, append_assoc}
+use Rattle.std.proofs.Common.{◌≡◌, ◌⊎◌, inl, inr, ⊎_elim, ℕ, suc, Bool, true, false, cond, List, [], ◌∷◌, ◌++◌, map, Some, refl, sym, ap, ◌∙◌, subst, arith, append_assoc}
 use Rattle.std.specs.Prelude.{if◌then◌else◌}
 use Rattle.std.specs.Ordering.{nat_cmp, eq_by_cmp}
 use Rattle.std.specs.Cmp.{Equal-is}
@@ -10,13 +10,17 @@ use Rattle.std.proofs.lemmas.List.{map-append}
 use Rattle.ss_car.specs.Car.{Section}
 use Rattle.ss_model.specs.State.{State, Kept}
 use Rattle.ss_model.specs.Lawful.{After, AreSound, IsSmall, is_known, with_block, with_blocks}
-use Rattle.ss_model.specs.History.{AfterAll}
+use Rattle.ss_model.specs.Lawful.{AfterAll}
 use Rattle.ss_model.specs.declared.call.Call.TheVariants as call
 use Rattle.ss_model.specs.declared.call.Answer.{Answer}
 use Rattle.ss_model.specs.declared.call.Answer.TheVariants as answer
 use Rattle.ss_model.specs.declared.call.PutReply.TheVariants as put
 use Rattle.ss_model.specs.declared.call.Entry.{Entry}
-use Rattle.ss_import.specs.Import.{pair_of, is_stored, IsSettled, ArePuts, AreSmall}
+use Rattle.ss_import.specs.Import.{pair_of, is_stored, IsSettled, ArePuts}
+
+-- no kept block is longer than a block may be
+abbrev pub AreSmall : Kept → Type 0
+AreSmall kept = (c block : List ℕ) → finite_map.get kept c ≡ Some block → IsSmall (c, block)
 
 inserted : (kept : Kept) (k v c : List ℕ) → ((c ≡ k) × (finite_map.get (finite_map.insert kept k v) c ≡ Some v)) ⊎ (finite_map.get (finite_map.insert kept k v) c ≡ finite_map.get kept c)
 inserted kept k v c = go (eq_by_cmp (slice_cmp nat_cmp) c k) refl

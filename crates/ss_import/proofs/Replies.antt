@@ -1,5 +1,5 @@
 -- What the answer to a put of a group means for the import.
-use Rattle.std.proofs.Common.{◌≡◌, ◌⊎◌, inl, inr, ⊎_elim, ℕ, ◌+◌, ◌<◌, ◌≤◌, true, false, List, [], ◌∷◌, ◌++◌, length, All, Some, Ok, Err, refl, sym, ap, ◌∙◌, subst, arith, true≢false, get_or}
+use Rattle.std.proofs.Common.{◌≡◌, ◌⊎◌, inl, inr, ⊎_elim, ℕ, ◌<◌, ◌≤◌, true, false, List, [], ◌∷◌, ◌++◌, length, All, Some, Ok, Err, refl, sym, ap, ◌∙◌, subst, arith, true≢false, get_or}
 use Rattle.std.specs.Prelude.{slice_get}
 use Rattle.std.specs.FinSet as finite_set
 use Rattle.std.proofs.lemmas.Option.{slice_get_within, get_or_from_slice_get}
@@ -13,14 +13,14 @@ use Rattle.ss_model.specs.declared.call.PutReply.{PutReply}
 use Rattle.ss_model.specs.declared.call.PutReply.TheVariants as put
 use Rattle.ss_model.specs.declared.call.Entry.{Entry}
 use Rattle.ss_core.specs.declared.split_core.SplitCore.{SplitCore}
-use Rattle.ss_core.specs.Puts.{IsDueTo, held_put_bytes}
+use Rattle.ss_core.specs.Replies.{IsDueTo, held_put_bytes}
 use Rattle.ss_import.specs.declared.fault.BlockFault.{BlockFault}
 use Rattle.ss_import.specs.declared.fault.BlockFault.TheVariants as block
 use Rattle.ss_import.specs.declared.fault.ImportFault.{ImportFault}
 use Rattle.ss_import.specs.declared.fault.ImportFault.TheVariants as import
 use Rattle.ss_import.specs.declared.importer.PutFault.TheVariants as group
-use Rattle.ss_import.specs.Import.{entry, pair_of, GoTogether, is_stored, IsSettled, IsBlockFault}
-use Rattle.ss_import.specs.Steps.{outcome_of, IsGroupReply, IsDueBlock, FaultCounts}
+use Rattle.ss_import.specs.Import.{entry, pair_of, GoTogether, is_stored, IsSettled, IsBlockFault, FaultCounts}
+use Rattle.ss_import.specs.Steps.{outcome_of, IsGroupReply, IsDueBlock}
 
 -- a put that stored its blocks
 pub stored_reply : (reply : PutReply) (n : ℕ) → outcome_of reply ≡ Ok n → reply ≡ put.Stored n

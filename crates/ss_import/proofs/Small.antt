@@ -11,8 +11,7 @@ use Rattle.ss_store.specs.Places.{with_pairs, without_cids}
 use Rattle.ss_hot.specs.Half.{AreInPlace, hot_after, hot_from}
 use Rattle.ss_model.specs.State.{State, Kept}
 use Rattle.ss_core.specs.StandsFor.{HasState}
-use Rattle.ss_import.specs.Import.{AreSmall}
-use Rattle.ss_import.proofs.Kept.{insert_small}
+use Rattle.ss_import.proofs.Kept.{AreSmall, insert_small}
 
 pairs_small : (kept : Kept) (pairs : List (List ℕ × List ℕ)) → AreSmall kept → All BlockFits pairs → AreSmall (with_pairs kept pairs)
 pairs_small kept [] small fit = small

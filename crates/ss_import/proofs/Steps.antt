@@ -1,9 +1,8 @@
 -- What a step of an import leaves, by how it ends.
-use Rattle.std.proofs.Common.{◌≡◌, inl, inr, ℕ, zero, suc, ◌+◌, ◌/◌, ◌%◌, ◌^◌, ◌≤◌, Bool, true, false, nat_lt, MutBor, List, [], ◌∷◌, ◌++◌, length, Option, Some, Err, refl, sym, ap, ◌∙◌, subst, arith, length-append}
+use Rattle.std.proofs.Common.{◌≡◌, ◌⊎◌, inl, inr, ℕ, zero, suc, ◌+◌, ◌/◌, ◌%◌, ◌^◌, ◌≤◌, Bool, true, false, nat_lt, MutBor, List, [], ◌∷◌, ◌++◌, length, Option, Some, Err, refl, sym, ap, ◌∙◌, subst, arith, length-append}
 use Rattle.std.specs.Prelude.{if◌then◌else◌}
 use Rattle.std.specs.Option.{ForSome}
 use Rattle.std.specs.Io.KnownBytes.{IsAtEnd}
-use Rattle.std.proofs.lemmas.List.{append-nil}
 use Rattle.ss_car.specs.Bodies.{TakesStart, TakesSection, NextFault, roots_of, taken_of, input_left, Blames, FaultHasCause}
 use Rattle.ss_car.specs.Car.{framed, Section, IsCar}
 use Rattle.ss_car.specs.declared.fault.CarFault.{CarFault}
@@ -13,14 +12,12 @@ use Rattle.ss_car.specs.declared.reader.CarReader.{CarReader}
 use Rattle.ss_cid.specs.Varint.{varint, groups_of}
 use Rattle.ss_disk.specs.declared.disk.Disk.{Ghosts}
 use Rattle.ss_io.specs.declared.source.Source.{Ghosts as Source}
-use Rattle.ss_history.specs.Story.{Story}
 use Rattle.ss_import.specs.declared.fault.ImportFault.{ImportFault}
 use Rattle.ss_import.specs.declared.fault.ImportFault.TheVariants as import
 use Rattle.ss_import.specs.declared.importer.Importer.{Importer}
 use Rattle.ss_import.specs.Import.{fault_at, AreRead, IsWhole, EndsReading}
-use Rattle.ss_import.specs.Steps.{Holds, HasTaken, Putting, PutsEnded, Takes, Refused, Refuses, Reading, WasRead, Ended}
-use Rattle.ss_import.proofs.Cars.{taken_start, taken_more, begins, whole, refused}
-use Rattle.ss_import.proofs.Putting.{opened}
+use Rattle.ss_import.specs.Steps.{Holds, HasTaken, Putting, PutsEnded, Takes, Refuses, Reading, WasRead, Ended}
+use Rattle.ss_import.proofs.Cars.{taken_start, taken_more, whole, refused}
 
 some_framed : (body : List ℕ) → 1 ≤ length (framed body)
 unfolding varint groups_of
@@ -70,42 +67,25 @@ begun source input was imp reader takes holds none putting = record {
 module _ {D : Type 0} {disk : Ghosts D} (input : Option (List ℕ)) (was : D) (imp : Importer D disk) (roots : List (List ℕ)) (sections : List Section) (read : AreRead input roots sections) where
   -- a put ended the import
   puts_ended : (fault : ImportFault) → PutsEnded was imp sections fault → Ended input was imp fault
-  puts_ended fault ends = record {
-    roots = roots;
-    sections = sections;
-    left = ends.left;
-    puts = ends.puts;
-    last = ends.last;
-    story = ends.story;
-    read = read;
-    are_puts = ends.are_puts;
-    reason = inl ends.reason;
-  }
+  puts_ended fault ends = record { roots = roots; sections = sections; read = read; reason = inl ends }
 
   -- the CAR ended the import, or memory did
   car_ended : (fault : ImportFault) (left : List Section) → Putting was imp sections left → EndsReading input roots sections left fault → Ended input was imp fault
-  car_ended fault left putting ends = record {
-    roots = roots;
-    sections = sections;
-    left = left;
-    puts = putting.puts;
-    last = [];
-    story = subst (λ h. Story was imp.core (opened imp.view ∷ h)) (sym (append-nil putting.puts)) putting.story;
-    read = read;
-    are_puts = putting.are_puts;
-    reason = inr (refl, ends);
-  }
+  car_ended fault left putting ends = record { roots = roots; sections = sections; read = read; reason = inr (left, putting, ends) }
 
-  refused_at : (now : Option (List ℕ)) (taken : ℕ) → HasTaken input now roots sections taken → (f : CarFault) (offset : ℕ) (fault : ImportFault) → offset ≡ taken → Blames NextFault now f → fault_at f offset ≡ fault → Refused was imp sections (fault_at f offset)
-      → Ended input was imp fault
-  refused_at now taken took f offset fault at blames is ends = subst (λ e. Ended input was imp e) is (by f blames ends)
+  refused_at : (now : Option (List ℕ)) (taken : ℕ) → HasTaken input now roots sections taken → (f : CarFault) (offset : ℕ) (fault : ImportFault) → offset ≡ taken → Blames NextFault now f → Refuses was imp sections (fault_at f offset) fault → Ended input was imp fault
+  refused_at now taken took f offset fault at = by f
     where
-      bad : (f : CarFault) → ForSome now (λ bytes. NextFault bytes f) → Putting was imp sections [] → Ended input was imp (import.BadCar f offset)
-      bad f blames putting = car_ended (import.BadCar f offset) [] putting (refl, inl (subst (λ n. ForSome input (λ bytes. IsCar bytes roots sections (Some (record { fault = f; offset = n })))) (sym at) (refused input now roots sections taken f took blames)))
+      one : (e : ImportFault) → fault ≡ e → (left : List Section) → Putting was imp sections left → EndsReading input roots sections left e → Ended input was imp fault
+      one e is left putting ends = subst (λ e. Ended input was imp e) (sym is) (car_ended e left putting ends)
 
-      by : (f : CarFault) → Blames NextFault now f → Refused was imp sections (fault_at f offset) → Ended input was imp (fault_at f offset)
-      by car.ReadFault b ends = car_ended import.ReadFault ends.0 ends.1 tt
-      by car.NoMemory b ends = car_ended import.NoMemory ends.0 ends.1 tt
+      bad : (f : CarFault) → ForSome now (λ bytes. NextFault bytes f) → ((fault ≡ import.BadCar f offset) × Putting was imp sections []) ⊎ PutsEnded was imp sections fault → Ended input was imp fault
+      bad f blames (inr ends) = puts_ended fault ends
+      bad f blames (inl (is, putting)) = one (import.BadCar f offset) is [] putting (refl, inl (subst (λ n. ForSome input (λ bytes. IsCar bytes roots sections (Some (record { fault = f; offset = n })))) (sym at) (refused input now roots sections taken f took blames)))
+
+      by : (f : CarFault) → Blames NextFault now f → Refuses was imp sections (fault_at f offset) fault → Ended input was imp fault
+      by car.ReadFault b ends = one import.ReadFault ends.0 ends.1 ends.2 tt
+      by car.NoMemory b ends = one import.NoMemory ends.0 ends.1 ends.2 tt
       by car.Truncated b ends = bad car.Truncated b ends
       by car.BadHeader b ends = bad car.BadHeader b ends
       by (car.BadVersion version) b ends = bad (car.BadVersion version) b ends
@@ -116,7 +96,7 @@ module _ {D : Type 0} {disk : Ghosts D} (input : Option (List ℕ)) (was : D) (i
 
 module _ {S D : Type 0} (source : Source S) {disk : Ghosts D} (input : Option (List ℕ)) (was : D) (before now : Importer D disk) (old new : CarReader S) (r : Reading source input was before old) where
   are_read : AreRead input (roots_of old) r.sections
-  are_read = inr (λ bytes is. (taken_of old, begins input (input_left source old) (roots_of old) r.sections (taken_of old) r.taken bytes is))
+  are_read = inr (λ bytes is. (taken_of old, (r.taken bytes is).0))
 
   taken_section : (cid block : List ℕ) → TakesSection (input_left source old) (input_left source new) cid block → taken_of new ≡ taken_of old + length (framed (cid ++ block)) → HasTaken input (input_left source new) (roots_of old) (r.sections ++ record { offset = taken_of old; cid = cid; block = block } ∷ []) (taken_of new)
   taken_section cid block takes count = taken_more input (input_left source old) (input_left source new) (roots_of old) r.sections (taken_of old) (taken_of new) cid block r.taken takes count
@@ -136,7 +116,7 @@ module _ {S D : Type 0} (source : Source S) {disk : Ghosts D} (input : Option (L
   taken_ended : (cid block : List ℕ) → TakesSection (input_left source old) (input_left source new) cid block → taken_of new ≡ taken_of old + length (framed (cid ++ block)) → (fault : ImportFault)
       → Takes was now r.sections (record { offset = taken_of old; cid = cid; block = block }) (taken_of new) (Err fault) → Ended input was now fault
   taken_ended cid block takes count import.TooLong ends = car_ended input was now (roots_of old) r.sections are_read import.TooLong [] ends.1
-      (refl, record { offset = taken_of old; cid = cid; block = block }, taken_of new, ends.0, begins input (input_left source new) (roots_of old) _ (taken_of new) (taken_section cid block takes count))
+      (refl, record { offset = taken_of old; cid = cid; block = block }, taken_of new, ends.0, λ bytes is. (taken_section cid block takes count bytes is).0)
   taken_ended cid block takes count import.NoMemory ends = puts_ended input was now (roots_of old) r.sections are_read import.NoMemory ends
   taken_ended cid block takes count import.ReadFault ends = puts_ended input was now (roots_of old) r.sections are_read import.ReadFault ends
   taken_ended cid block takes count import.DiskFault ends = puts_ended input was now (roots_of old) r.sections are_read import.DiskFault ends
@@ -167,10 +147,8 @@ module _ {S D : Type 0} (source : Source S) {disk : Ghosts D} (input : Option (L
   last_ended fault ends = puts_ended input was now (roots_of old) r.sections are_read fault ends
 
   -- no section could be read
-  pub read_refused : (refusal : CarRefusal) (fault : ImportFault) → refusal.offset ≡ taken_of old → Blames NextFault (input_left source old) refusal.fault → Refuses was now r.sections refusal fault → Ended input was now fault
-  read_refused refusal fault at blames (inr ends) = puts_ended input was now (roots_of old) r.sections are_read fault ends
-  read_refused refusal fault at blames (inl (is, ends)) =
-      refused_at input was now (roots_of old) r.sections are_read (input_left source old) (taken_of old) r.taken refusal.fault refusal.offset fault at blames (sym is) (subst (λ e. Refused was now r.sections e) is ends)
+  pub read_refused : (refusal : CarRefusal) (fault : ImportFault) → refusal.offset ≡ taken_of old → Blames NextFault (input_left source old) refusal.fault → Refuses was now r.sections (fault_at refusal.fault refusal.offset) fault → Ended input was now fault
+  read_refused refusal fault = refused_at input was now (roots_of old) r.sections are_read (input_left source old) (taken_of old) r.taken refusal.fault refusal.offset fault
 
 -- the source is not blamed for a fault of the CAR
 pub car_counts : (before now : ℕ) (f : CarFault) (offset : ℕ) (kind : CarFault) (at : ℕ) → fault_at f offset ≡ import.BadCar kind at → FaultHasCause before now f → now ≡ before

@@ -2,34 +2,27 @@
 --
 -- A view is opened. Then sections are put in it, group by group, each as soon as it is known that no more go with it. At last, where
 -- the CAR has no fault and all its sections were put, its roots may be set as head.
-use Rattle.std.specs.{Prelude.{◌≡◌, ◌⊎◌, ℕ, ◌+◌, ◌-◌, ◌^◌, ◌<◌, ◌≤◌, min, Bool, true, false, List, [], ◌∷◌, ◌++◌, map, length, sum_by, Option, None, Some, if◌then◌else◌, Result, Ok, Err}, Option.ForSome}
+use Rattle.std.specs.{Prelude.{◌≡◌, ◌⊎◌, ℕ, ◌+◌, ◌-◌, ◌^◌, ◌<◌, ◌≤◌, min, Bool, true, false, List, [], ◌∷◌, ◌++◌, map, length, sum_by, Option, None, Some, if◌then◌else◌, Result, Ok, Err, MatchResult}, Option.ForSome}
 use Rattle.ss_car.specs.{Car.{Section, IsCar, StartFault}, declared.fault.CarFault.CarFault, declared.fault.CarRefusal.CarRefusal}
 use Rattle.ss_cbor.specs.declared.fault.CborKind.{CborKind}
 use Rattle.ss_disk.specs.Disk.{Rose}
-use Rattle.ss_model.specs.{Lawful.{IsPairFault, AreSound, IsSmall, with_blocks}, declared.call.Call.Call, declared.call.Answer.Answer, declared.call.ViewReply.ViewReply, declared.call.PutReply.PutReply, declared.call.HeadReply.HeadReply, declared.call.Entry.Entry, Head.IsHead, History.Legal, State.{State, Kept}}
+use Rattle.ss_model.specs.{Lawful.{IsPairFault, AreSound, IsSmall, with_blocks}, declared.call.Call.Call, declared.call.Answer.Answer, declared.call.ViewReply.ViewReply, declared.call.PutReply.PutReply, declared.call.HeadReply.HeadReply, declared.call.Entry.Entry, Head.IsHead, Lawful.Legal, State.{State, Kept}}
 use Rattle.ss_import.specs.{declared.fault.BlockFault.BlockFault, declared.fault.ImportFault.ImportFault, declared.importer.Imported.Imported}
 use Rattle.ss_history.specs.Story.{HavePlace}
-use Rattle.ss_model.specs.declared.call.Call.TheVariants as call
-use Rattle.ss_model.specs.declared.call.Answer.TheVariants as answer
-use Rattle.ss_model.specs.declared.call.PutReply.TheVariants as put
-use Rattle.ss_model.specs.declared.call.HeadReply.TheVariants as head
-use Rattle.ss_import.specs.declared.fault.BlockFault.TheVariants as block
-use Rattle.ss_import.specs.declared.fault.ImportFault.TheVariants as import
-use Rattle.ss_car.specs.declared.fault.CarFault.TheVariants as car
 use Rattle.std.specs.FinMap as finite_map
 
 -- the number of a block's fault, which the program prints; it is this project's own
 abbrev pub block_number : BlockFault → ℕ
-block_number block.TooLarge = 6
-block_number block.UnknownHash = 10
-block_number block.Mismatch = 11
-block_number block.Malformed = 12
+block_number BlockFault.TooLarge = 6
+block_number BlockFault.UnknownHash = 10
+block_number BlockFault.Mismatch = 11
+block_number BlockFault.Malformed = 12
 
 -- the fault that a refusal of the CAR is; a source that failed and want of memory are not the CAR's
 abbrev pub fault_at : CarFault → ℕ → ImportFault
-fault_at car.ReadFault offset = import.ReadFault
-fault_at car.NoMemory offset = import.NoMemory
-fault_at fault offset = import.BadCar fault offset
+fault_at CarFault.ReadFault offset = ImportFault.ReadFault
+fault_at CarFault.NoMemory offset = ImportFault.NoMemory
+fault_at fault offset = ImportFault.BadCar fault offset
 
 abbrev pub fault_of : CarRefusal → ImportFault
 fault_of refusal = fault_at refusal.fault refusal.offset
@@ -52,32 +45,32 @@ abbrev pub GoTogether : List (List ℕ × List ℕ) → Type 0
 GoTogether pairs = (length pairs ≤ 1) ⊎ ((length pairs ≤ 256) × (sum_by pair_length pairs ≤ 4194304))
 
 abbrev pub is_stored : Answer → Bool
-is_stored (answer.Put (put.Stored new)) = true
+is_stored (Answer.Put (PutReply.Stored new)) = true
 is_stored _ = false
 
 abbrev pub new_of : Answer → ℕ
-new_of (answer.Put (put.Stored new)) = new
+new_of (Answer.Put (PutReply.Stored new)) = new
 new_of _ = 0
 
 -- the blocks of a put were stored, or one of them is refused; any other answer ends an import
 abbrev pub IsSettled : Answer → Type 0
-IsSettled (answer.Put (put.Stored new)) = Unit {0}
-IsSettled (answer.Put (put.TooBig n)) = Unit {0}
-IsSettled (answer.Put (put.UnknownHash i)) = Unit {0}
-IsSettled (answer.Put (put.Mismatch i)) = Unit {0}
-IsSettled (answer.Put (put.Malformed i kind place)) = Unit {0}
+IsSettled (Answer.Put (PutReply.Stored new)) = Unit {0}
+IsSettled (Answer.Put (PutReply.TooBig n)) = Unit {0}
+IsSettled (Answer.Put (PutReply.UnknownHash i)) = Unit {0}
+IsSettled (Answer.Put (PutReply.Mismatch i)) = Unit {0}
+IsSettled (Answer.Put (PutReply.Malformed i kind place)) = Unit {0}
 IsSettled _ = ⊥
 
 -- The entries put sections in this view, each some that come next. Those that were stored are passed; what is left was not stored.
 abbrev pub ArePuts : ℕ → List Section → List Entry → List Section → Type 0
 ArePuts v sections [] left = left ≡ sections
 ArePuts v sections (e ∷ h) left =
-    (group : List Section) × (more : List Section) × (sections ≡ group ++ more) × (GoTogether (map pair_of group) × (e ≡ entry (call.Put v (map pair_of group)) e.answer)) × IsSettled e.answer × ArePuts v (if is_stored e.answer then more else sections) h left
+    (group : List Section) × (more : List Section) × (sections ≡ group ++ more) × (GoTogether (map pair_of group) × (e ≡ entry (Call.Put v (map pair_of group)) e.answer)) × IsSettled e.answer × ArePuts v (if is_stored e.answer then more else sections) h left
 
 -- the last entry puts some of these sections, and is answered so
 abbrev pub IsLastPut : ℕ → List Section → List Entry → PutReply → Type 0
 IsLastPut v left last reply =
-    (group : List Section) × (more : List Section) × (left ≡ group ++ more) × GoTogether (map pair_of group) × (last ≡ entry (call.Put v (map pair_of group)) (answer.Put reply) ∷ [])
+    (group : List Section) × (more : List Section) × (left ≡ group ++ more) × GoTogether (map pair_of group) × (last ≡ entry (Call.Put v (map pair_of group)) (Answer.Put reply) ∷ [])
 
 -- how many of the blocks that were stored were new
 abbrev pub new_in : List Entry → ℕ
@@ -86,7 +79,7 @@ new_in (e ∷ h) = new_of e.answer + new_in h
 
 -- the last entry sets these roots as head, and is answered so
 abbrev pub IsLastHead : List (List ℕ) → List Entry → HeadReply → Type 0
-IsLastHead roots last reply = last ≡ entry (call.SetHead roots) (answer.Head reply) ∷ []
+IsLastHead roots last reply = last ≡ entry (Call.SetHead roots) (Answer.Head reply) ∷ []
 
 -- ---- the CAR
 
@@ -110,44 +103,44 @@ IsWhole input roots sections = ForSome input (λ bytes. IsCar bytes roots sectio
 
 -- the block of a section is not stored for this fault; one that is too large was put alone, at last
 abbrev pub IsBlockFault : ℕ → List Entry → Section → BlockFault → Type 0
-IsBlockFault v puts s block.TooLarge = (n : ℕ) × (before : List Entry) × (puts ≡ before ++ entry (call.Put v (pair_of s ∷ [])) (answer.Put (put.TooBig n)) ∷ [])
-IsBlockFault v puts s block.UnknownHash = IsPairFault 0 (pair_of s) (put.UnknownHash 0)
-IsBlockFault v puts s block.Mismatch = IsPairFault 0 (pair_of s) (put.Mismatch 0)
-IsBlockFault v puts s block.Malformed = (kind : CborKind) × (place : ℕ) × IsPairFault 0 (pair_of s) (put.Malformed 0 kind place)
+IsBlockFault v puts s BlockFault.TooLarge = (n : ℕ) × (before : List Entry) × (puts ≡ before ++ entry (Call.Put v (pair_of s ∷ [])) (Answer.Put (PutReply.TooBig n)) ∷ [])
+IsBlockFault v puts s BlockFault.UnknownHash = IsPairFault 0 (pair_of s) (PutReply.UnknownHash 0)
+IsBlockFault v puts s BlockFault.Mismatch = IsPairFault 0 (pair_of s) (PutReply.Mismatch 0)
+IsBlockFault v puts s BlockFault.Malformed = (kind : CborKind) × (place : ℕ) × IsPairFault 0 (pair_of s) (PutReply.Malformed 0 kind place)
 
 -- a put ends the import, or one of its blocks does: these sections are left
 abbrev pub EndsPuts : ℕ → List Entry → List Section → List Entry → ImportFault → Type 0
-EndsPuts v puts left last import.NoMemory = (last ≡ []) ⊎ IsLastPut v left last put.NoMemory
-EndsPuts v puts left last import.DiskFault = IsLastPut v left last put.DiskFault
-EndsPuts v puts left last (import.LogFull file need room) = IsLastPut v left last (put.LogFull file need room)
-EndsPuts v puts left last (import.TableFull rows) = IsLastPut v left last (put.TableFull rows)
-EndsPuts v puts left last (import.BadBlock fault offset) = (last ≡ []) × (s : Section) × (more : List Section) × (left ≡ s ∷ more) × (offset ≡ s.offset) × IsBlockFault v puts s fault
+EndsPuts v puts left last ImportFault.NoMemory = (last ≡ []) ⊎ IsLastPut v left last PutReply.NoMemory
+EndsPuts v puts left last ImportFault.DiskFault = IsLastPut v left last PutReply.DiskFault
+EndsPuts v puts left last (ImportFault.LogFull file need room) = IsLastPut v left last (PutReply.LogFull file need room)
+EndsPuts v puts left last (ImportFault.TableFull rows) = IsLastPut v left last (PutReply.TableFull rows)
+EndsPuts v puts left last (ImportFault.BadBlock fault offset) = (last ≡ []) × (s : Section) × (more : List Section) × (left ≡ s ∷ more) × (offset ≡ s.offset) × IsBlockFault v puts s fault
 EndsPuts v puts left last _ = ⊥
 
 -- the CAR ends the import, once all sections before its fault were stored
 abbrev pub EndsReading : Option (List ℕ) → List (List ℕ) → List Section → List Section → ImportFault → Type 0
-EndsReading input roots sections left (import.BadCar fault offset) =
+EndsReading input roots sections left (ImportFault.BadCar fault offset) =
     (left ≡ []) × (ForSome input (λ bytes. IsCar bytes roots sections (Some (record { fault = fault; offset = offset })))
     ⊎ ((sections ≡ []) × (offset ≡ 0) × ForSome input (λ bytes. StartFault bytes fault)))
-EndsReading input roots sections left import.TooLong =
+EndsReading input roots sections left ImportFault.TooLong =
     (left ≡ []) × (s : Section) × (end : ℕ) × (2 ^ 40 < end) × ForSome input (λ bytes. BeginsWith bytes roots (sections ++ s ∷ []) end)
-EndsReading input roots sections left import.ReadFault = Unit {0}
-EndsReading input roots sections left import.NoMemory = Unit {0}
+EndsReading input roots sections left ImportFault.ReadFault = Unit {0}
+EndsReading input roots sections left ImportFault.NoMemory = Unit {0}
 EndsReading input roots sections left _ = ⊥
 
 -- setting the roots as head ends the import
 abbrev pub EndsHead : HeadReply → ImportFault → Type 0
-EndsHead head.NoMemory fault = fault ≡ import.NoMemory
-EndsHead head.DiskFault fault = fault ≡ import.DiskFault
-EndsHead (head.LogFull file need room) fault = fault ≡ import.LogFull file need room
-EndsHead (head.Set height) fault = ⊥
-EndsHead reply fault = fault ≡ import.BadHead reply
+EndsHead HeadReply.NoMemory fault = fault ≡ ImportFault.NoMemory
+EndsHead HeadReply.DiskFault fault = fault ≡ ImportFault.DiskFault
+EndsHead (HeadReply.LogFull file need room) fault = fault ≡ ImportFault.LogFull file need room
+EndsHead (HeadReply.Set height) fault = ⊥
+EndsHead reply fault = fault ≡ ImportFault.BadHead reply
 
 -- Why an import ends so: these sections were read, and these of them are left; the last entry stands behind the settled puts.
 abbrev pub HasReason : Bool → Option (List ℕ) → List (List ℕ) → List Section → List Section → ℕ → List Entry → List Entry → Result Imported ImportFault → Type 0
 HasReason wants input roots sections left v puts last (Ok done) =
     (left ≡ []) × IsWhole input roots sections × (done.sections ≡ length sections) × (done.new ≡ min (new_in puts) (2 ^ 64 - 1))
-    × (((wants ≡ false) × (last ≡ []) × (done.height ≡ None)) ⊎ ((wants ≡ true) × (height : ℕ) × IsLastHead roots last (head.Set height) × (done.height ≡ Some height)))
+    × (((wants ≡ false) × (last ≡ []) × (done.height ≡ None)) ⊎ ((wants ≡ true) × (height : ℕ) × IsLastHead roots last (HeadReply.Set height) × (done.height ≡ Some height)))
 HasReason wants input roots sections left v puts last (Err fault) =
     EndsPuts v puts left last fault
     ⊎ (((last ≡ []) × EndsReading input roots sections left fault)
@@ -161,15 +154,19 @@ pub record IsImport (Did : List Entry → Type 0) (wants : Bool) (input : Option
   pub left : List Section
   pub puts : List Entry
   pub last : List Entry
-  pub did : Did (entry call.OpenView (answer.View (ViewReply.Opened view)) ∷ (puts ++ last))
+  pub did : Did (entry Call.OpenView (Answer.View (ViewReply.Opened view)) ∷ (puts ++ last))
   pub read : AreRead input roots sections
   pub are_puts : ArePuts view sections puts left
   pub reason : HasReason wants input roots sections left view puts last result
 
--- the source's count of faults rose where the import ended by it, and stayed in every other case
-abbrev pub CountsSource : ℕ → ℕ → Result Imported ImportFault → Type 0
-CountsSource before now (Err import.ReadFault) = Rose before now
-CountsSource before now _ = now ≡ before
+-- the source's count of faults rose where it failed, and stayed for every other fault
+abbrev pub FaultCounts : ℕ → ℕ → ImportFault → Type 0
+FaultCounts before now ImportFault.ReadFault = Rose before now
+FaultCounts before now _ = now ≡ before
+
+-- the same of an import or a part of it, where the count stays without a fault
+abbrev pub CountsSource : {X : Type 0} → ℕ → ℕ → Result X ImportFault → Type 0
+CountsSource before now result = MatchResult result (λ _. now ≡ before) (FaultCounts before now)
 
 -- the calls of an import of these sections, up to some of them
 pub record AreCalls (roots : List (List ℕ)) (sections : List Section) (h : List Entry) : Type 0 where
@@ -177,13 +174,9 @@ pub record AreCalls (roots : List (List ℕ)) (sections : List Section) (h : Lis
   pub puts : List Entry
   pub left : List Section
   pub last : List Entry
-  pub are : h ≡ entry call.OpenView (answer.View (ViewReply.Opened view)) ∷ (puts ++ last)
+  pub are : h ≡ entry Call.OpenView (Answer.View (ViewReply.Opened view)) ∷ (puts ++ last)
   pub are_puts : ArePuts view sections puts left
   pub ends : (last ≡ []) ⊎ (((reply : PutReply) × IsLastPut view left last reply) ⊎ ((reply : HeadReply) × IsLastHead roots last reply))
-
--- no kept block is longer than a block may be
-abbrev pub AreSmall : Kept → Type 0
-AreSmall kept = (c block : List ℕ) → finite_map.get kept c ≡ Some block → IsSmall (c, block)
 
 -- Nothing of a CAR and of a state stands in the way of an import: the CAR is whole and no longer than it may be, its blocks may be
 -- stored, its roots are a tipset then, and each legal history of its calls has a row for each block and room for each record.

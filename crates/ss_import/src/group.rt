@@ -1,5 +1,6 @@
 //! The sections that go into one put.
-ghost use Rattle.std.specs.Prelude.{◌≡◌, ◌+◌, ◌<◌, ◌≤◌, ◌^◌, [], ◌∷◌, ◌++◌, length, take, IsTrue, IfOk, OnOk};
+ghost use Rattle.std.specs.Prelude.{◌≡◌, ◌↔◌, ◌+◌, ◌<◌, ◌≤◌, ◌^◌, [], ◌∷◌, ◌++◌, length, take, IsTrue, IfOk, OnOk};
+ghost use Rattle.ss_import.specs.Steps.{Holds};
 ghost use Rattle.ss_model.specs.declared.TheConstants.{PUT_BYTES};
 
 use ss_cid::{Cid, NoMemory, Parcel};
@@ -25,8 +26,7 @@ pub struct Group {
 impl Group {
     /// No sections, which takes no memory.
     pub fn new(alloc: Global) -> Group
-        ensures parcel { result.parcel ≡ [] }
-        ensures offsets { result.offsets.items ≡ [] }
+        ensures holds { Holds result [] }
         ensures bytes { (result.bytes ≡ 0) × (result.put_bytes ≡ 3) }
     {
         Group {
@@ -39,7 +39,7 @@ impl Group {
 
     /// Whether a section with so many bytes of its CID and its block, and of a put, goes into the same put.
     pub fn takes(&self, bytes: u64, put_bytes: u64) -> bool
-        ensures { IsTrue result → (length self.now.parcel < 256) × (self.now.bytes + bytes ≤ 4194304) × (self.now.put_bytes + put_bytes ≤ PUT_BYTES) }
+        ensures { IsTrue result ↔ (length self.now.parcel < 256) × (self.now.bytes + bytes ≤ 4194304) × (self.now.put_bytes + put_bytes ≤ PUT_BYTES) }
     {
         self.parcel.len() < GROUP_SECTIONS
             && self.bytes.saturating_add(bytes) <= GROUP_BYTES
@@ -84,8 +84,7 @@ impl Group {
 
     /// Takes all sections away.
     pub fn clear(&mut self, alloc: Global)
-        ensures parcel { self.new.parcel ≡ [] }
-        ensures offsets { self.new.offsets.items ≡ [] }
+        ensures holds { Holds self.new [] }
         ensures bytes { (self.new.bytes ≡ 0) × (self.new.put_bytes ≡ 3) }
     {
         self.parcel = Parcel::new(alloc);

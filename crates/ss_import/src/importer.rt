@@ -1,15 +1,16 @@
 //! The calls of an import, in order.
-ghost use Rattle.std.specs.Prelude.{◌≡◌, ◌+◌, ◌-◌, ◌<◌, ◌≤◌, ◌^◌, ℕ, List, [], Option, None, Ok, true, OnOk, length, max, min, slice_get};
+ghost use Rattle.std.specs.Prelude.{◌≡◌, ◌+◌, ◌-◌, ◌<◌, ◌≤◌, ◌^◌, ℕ, List, [], Option, None, Ok, true, OnOk, MatchResult, length, max, min, slice_get};
 ghost use Rattle.std.specs.FinSet as finite_set;
 ghost use Rattle.ss_car.specs.Car.{Section};
-ghost use Rattle.ss_car.specs.Bodies.{roots_of, taken_of, refusal_of, input_faults, input_place, FaultHasCause};
-ghost use Rattle.ss_core.specs.Puts.{held_bytes};
+ghost use Rattle.ss_car.specs.Bodies.{roots_of, taken_of, FaultHasCause};
+ghost use Rattle.ss_core.specs.Replies.{held_bytes};
 ghost use Rattle.ss_history.specs.Story.{Story};
-ghost use Rattle.ss_import.specs.Import.{IsImport, CountsSource, IsBlockFault};
-ghost use Rattle.ss_import.specs.Steps.{IsReady, Holds, Putting, PutsAll, PutsEnded, outcome_of, IsGroupReply, IsDueBlock, Takes, Refuses, Reading, WasRead, Stepped, FaultCounts, CountsRead, IsHeadOutcome};
+ghost use Rattle.ss_import.specs.Import.{IsImport, FaultCounts, CountsSource, IsBlockFault, EndsHead, fault_of};
+ghost use Rattle.ss_import.specs.Steps.{IsReady, Holds, Continues, IsBetween, UsesSource, Putting, PutsAll, PutsEnded, outcome_of, IsGroupReply, IsDueBlock, Takes, Refuses, Reading, WasRead, Stepped};
 ghost use Rattle.ss_import.specs.declared.fault.BlockFault.{BlockFault};
 ghost use Rattle.ss_import.specs.declared.importer.PutFault.TheVariants as group;
 ghost use Rattle.ss_model.specs.Lawful.{IsSmall};
+ghost use Rattle.ss_model.specs.declared.call.HeadReply.TheVariants as head_reply;
 
 use crate::fault::{BlockFault, ImportFault};
 use crate::group::Group;
@@ -104,9 +105,8 @@ impl<D: Disk> Importer<D> {
         head: bool,
     ) -> Result<Imported, ImportFault>
         requires ready { IsReady self.old }
-        requires holds { Holds self.old.group [] }
         requires sections { self.old.sections ≡ 0 }
-        ensures import { (was : D) → Putting was self.old [] [] → IsImport (Story was self.new.core) head (S.left source.old) result }
+        ensures import { (was : D) → Putting was self.old [] [] → Holds self.old.group [] → IsImport (Story was self.new.core) head (S.left source.old) result }
         ensures faults { CountsSource (S.faults source.old) (S.faults source.new) result }
     {
         let mut reader = match CarReader::open(alloc, source) {
@@ -125,12 +125,9 @@ impl<D: Disk> Importer<D> {
         reader: &mut CarReader<S>,
         head: bool,
     ) -> Result<Imported, ImportFault>
-        requires ready { IsReady self.old }
-        requires fresh { refusal_of reader.old ≡ None }
-        requires short { (self.old.sections ≤ taken_of reader.old) × (taken_of reader.old ≤ 2 ^ 40) }
+        requires { IsBetween self.old reader.old }
         ensures import { (input : Option (List ℕ)) (was : D) → Reading S.Source input was self.old reader.old → IsImport (Story was self.new.core) head input result }
-        ensures faults { CountsSource (input_faults S.Source reader.old) (input_faults S.Source reader.new) result }
-        ensures place { input_place S.Source reader.new ≡ input_place S.Source reader.old }
+        ensures source { UsesSource S.Source reader.old reader.new result }
     {
         while self.step(alloc, reader)? {}
         self.finish(alloc, reader.roots(), head)
@@ -142,16 +139,12 @@ impl<D: Disk> Importer<D> {
         alloc: Global,
         reader: &mut CarReader<S>,
     ) -> Result<bool, ImportFault>
-        requires ready { IsReady self.old }
-        requires fresh { refusal_of reader.old ≡ None }
-        requires short { (self.old.sections ≤ taken_of reader.old) × (taken_of reader.old ≤ 2 ^ 40) }
-        ensures ready { OnOk result (IsReady self.new × (refusal_of reader.new ≡ None)) }
-        ensures short { OnOk result ((self.new.sections ≤ taken_of reader.new) × (taken_of reader.new ≤ 2 ^ 40)) }
+        requires { IsBetween self.old reader.old }
+        ensures between { OnOk result (IsBetween self.new reader.new) }
         ensures more { result ≡ Ok true → taken_of reader.old < taken_of reader.new }
         ensures step { (input : Option (List ℕ)) (was : D) → Reading S.Source input was self.old reader.old → Stepped S.Source input was self.new reader.new result }
-        ensures faults { CountsRead (input_faults S.Source reader.old) (input_faults S.Source reader.new) result }
+        ensures source { UsesSource S.Source reader.old reader.new result }
         ensures roots { roots_of reader.new ≡ roots_of reader.old }
-        ensures place { input_place S.Source reader.new ≡ input_place S.Source reader.old }
     {
         let offset = reader.taken();
         match reader.next(alloc) {
@@ -179,21 +172,22 @@ impl<D: Disk> Importer<D> {
         requires ready { IsReady self.old }
         requires small { IsSmall (cid, block.now) }
         requires few { self.old.sections < 2 ^ 63 }
-        ensures ready { OnOk result (IsReady self.new) }
+        ensures continues { Continues self.new result }
         ensures short { OnOk result (end ≤ 2 ^ 40) }
         ensures count { OnOk result (self.new.sections ≡ self.old.sections + 1) }
         ensures takes { (was : D) (sections left : List Section) → Putting was self.old sections left → Holds self.old.group left → Takes was self.new sections (record { offset = offset; cid = cid; block = block.now }) end result }
-        ensures faults { (before : ℕ) → CountsRead before before result }
     {
         if end > CAR_BYTES {
             self.put(alloc)?;
             return Err(ImportFault::TooLong);
         }
         let bytes = (cid.as_bytes().len() + block.len()) as u64;
-        if !self.group.takes(bytes, self.put_bytes(&cid, block)) {
+        let mut put_bytes = self.put_bytes(&cid, block);
+        if !self.group.takes(bytes, put_bytes) {
             self.put(alloc)?;
+            // The put may have stored a block under the same CID.
+            put_bytes = self.put_bytes(&cid, block);
         }
-        let put_bytes = self.put_bytes(&cid, block);
         self.group.add(cid, block.as_slice(), offset, put_bytes)?;
         self.sections += 1;
         Ok(())
@@ -211,7 +205,7 @@ impl<D: Disk> Importer<D> {
     // The fault of a refusal. The sections before a fault of the CAR are put.
     fn refuse(&mut self, alloc: Global, refusal: CarRefusal) -> ImportFault
         requires { IsReady self.old }
-        ensures refuses { (was : D) (sections left : List Section) → Putting was self.old sections left → Holds self.old.group left → Refuses was self.new sections refusal result }
+        ensures refuses { (was : D) (sections left : List Section) → Putting was self.old sections left → Holds self.old.group left → Refuses was self.new sections (fault_of refusal) result }
         ensures faults { (before now : ℕ) → FaultHasCause before now refusal.fault → FaultCounts before now result }
     {
         let fault = ImportFault::from(refusal);
@@ -227,11 +221,10 @@ impl<D: Disk> Importer<D> {
     // Puts the group. Where a block is not stored, those before it are.
     fn put(&mut self, alloc: Global) -> Result<(), ImportFault>
         requires { IsReady self.old }
-        ensures ready { OnOk result (IsReady self.new) }
+        ensures continues { Continues self.new result }
         ensures empty { OnOk result (Holds self.new.group []) }
         ensures puts { (was : D) (sections left : List Section) → Putting was self.old sections left → Holds self.old.group left → PutsAll was self.new sections result }
         ensures count { self.new.sections ≡ self.old.sections }
-        ensures faults { (before : ℕ) → CountsRead before before result }
     {
         if self.group.parcel.is_empty() {
             return Ok(());
@@ -340,7 +333,7 @@ fn stored(reply: PutReply) -> Result<u32, PutFault>
 
 // The height of the head that was set, or why none was.
 fn set(reply: HeadReply) -> Result<u64, ImportFault>
-    ensures { IsHeadOutcome reply result }
+    ensures { MatchResult result (λ height. reply ≡ head_reply.Set height) (EndsHead reply) }
 {
     match reply {
         HeadReply::Set { height } => Ok(height),

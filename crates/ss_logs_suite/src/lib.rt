@@ -1,5 +1,5 @@
-//! Tests of the gate log, and of the stores over it: what crashes leave, full and damaged logs, and each public call on its happy
-//! path.
+//! Tests of the disk in memory: what calls that fail and crashes leave of it; and of the hot store over it: logs that are opened,
+//! and the calls that no command makes.
 //!
 //! It has no code of its own, so that each crate is proved once, and without its tests.
 #![tactic(auto)]

@@ -1,3 +1,2 @@
-mod gatelog;
+mod disk;
 mod hot;
-mod store;

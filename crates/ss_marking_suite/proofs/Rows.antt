@@ -8,8 +8,12 @@ use Rattle.std.specs.BTreeMap.{BTreeMap, get}
 use Rattle.std.specs.FinMap as finite_map
 use Rattle.ss_marks.specs.declared.colour.Colour.TheVariants.{White}
 use Rattle.ss_marks.specs.Marks.{Mark, MarkTable}
-use Rattle.ss_txn.specs.Changes.{KeepsRows}
-use Rattle.ss_marking_suite.specs.Rows.{has_block, HasRowsFor}
+use Rattle.ss_txn.specs.Marked.{KeepsRows, HasRowsOf}
+use Rattle.ss_marking_suite.specs.Rows.{has_block}
+
+-- there is one row for each block, and no other row
+abbrev pub HasRowsFor : BTreeMap (List ℕ) (List ℕ) → MarkTable → Type 0
+HasRowsFor blocks marks = HasRowsOf (has_block blocks) marks
 
 some_row : (o : Option Mark) → is_some (option_map (λ (m : Mark). m.row) o) ≡ is_some o
 some_row None = refl

@@ -14,7 +14,7 @@ use Rattle.ss_chain.specs.Fetch.{is_identity, fetched}
 use Rattle.ss_hash.specs.Digest.{IsValid}
 use Rattle.ss_model.specs.State.{Kept, CidSet, State}
 use Rattle.ss_model.specs.Lawful.{is_known, with_block, with_blocks, with_hot_cid, with_hot, AreSound, LawfulGet, after_put, After}
-use Rattle.ss_model.specs.History.{AfterAll}
+use Rattle.ss_model.specs.Lawful.{AfterAll}
 use Rattle.ss_model.specs.declared.call.PutReply.TheVariants as put
 use Rattle.ss_model.specs.declared.call.GetReply.{GetReply}
 use Rattle.ss_model.specs.declared.call.GetReply.TheVariants as get

@@ -10,7 +10,7 @@ use Rattle.std.specs.FinSet.{contains-insert, contains-remove, contains-empty}
 use Rattle.ss_records.specs.declared.record.Config.{Config as Settings}
 use Rattle.ss_model.specs.State.{ViewSet, State, empty_state, closed}
 use Rattle.ss_model.specs.Head.{IsHead}
-use Rattle.ss_model.specs.History.{IsProper, Legal, AfterAll}
+use Rattle.ss_model.specs.Lawful.{IsProper, Legal, AfterAll}
 use Rattle.ss_model.specs.Lawful.{with_blocks, with_hot, IsAdmitted, Lawful, After}
 use Rattle.ss_model.specs.declared.call.Call.{Call}
 use Rattle.ss_model.specs.declared.call.Answer.{Answer}

@@ -8,7 +8,8 @@ use Rattle.ss_cid.specs.Cid.{codec_of, identity_of}
 use Rattle.ss_cbor.specs.{Fault.scanned, declared.fault.CborFault.CborFault}
 use Rattle.ss_chain.specs.{Fetch.fetched, Steps.passes}
 use Rattle.ss_hash.specs.Digest.{IsValid, IsUnknownHash}
-use Rattle.ss_model.specs.{Head.{unread_refusal, head_refusal, IsHead, head_need}, State.{Kept, CidSet, State}, declared.TheConstants.{VIEWS, PUT_BLOCKS, PUT_BYTES, BLOCK_BYTES}, declared.call.Call.Call, declared.call.Answer.Answer, declared.call.ViewReply.ViewReply, declared.call.PutReply.PutReply, declared.call.GetReply.GetReply, declared.call.CloseReply.CloseReply, declared.call.HasReply.HasReply, declared.call.SizeReply.SizeReply, declared.call.HeadReply.HeadReply, declared.call.Info.Info}
+use Rattle.ss_model.specs.{Head.{unread_refusal, head_refusal, IsHead, head_need}, State.{Kept, CidSet, State}, declared.{TheConstants.{VIEWS, PUT_BLOCKS, PUT_BYTES, BLOCK_BYTES}, call.{Call.Call, Answer.Answer, ViewReply.ViewReply, PutReply.PutReply, GetReply.GetReply, CloseReply.CloseReply, HasReply.HasReply, SizeReply.SizeReply, HeadReply.HeadReply, Info.Info, Entry.Entry}}}
+use Rattle.ss_records.specs.declared.record.Mode.{Mode}
 use Rattle.std.specs.FinMap as map
 use Rattle.std.specs.FinSet as set
 
@@ -232,3 +233,22 @@ block_at pairs (Some i) = option_map (λ p. p.1) (slice_get pairs i)
 pub record ArePlaces (pairs : List (List ℕ × List ℕ)) (kept : Kept) (places : BTreeMap (List ℕ) ℕ) : Type 0 where
   pub blocks : (cid : List ℕ) → map.get kept cid ≡ block_at pairs (get (slice_cmp nat_cmp) places cid)
   pub within : (cid : List ℕ) (i : ℕ) → get (slice_cmp nat_cmp) places cid ≡ Some i → i < length pairs
+
+-- the state after all entries
+abbrev pub AfterAll : State → List Entry → State
+AfterAll s [] = s
+AfterAll s (e ∷ h) = AfterAll (After s e.call e.answer) h
+
+abbrev pub Legal : State → List Entry → Type 0
+Legal s [] = Unit {0}
+Legal s (e ∷ h) = Lawful s e.call e.answer × Legal (After s e.call e.answer) h
+
+-- What holds of a state of every store: a new store has such a state, and each legal entry and closing keep it, after any number of runs.
+pub record IsProper (s : State) : Type 0 where
+  pub stored : (c block : List ℕ) → map.get s.kept c ≡ Some block → identity_of c ≡ None
+  pub valid : (c block : List ℕ) → map.get s.kept c ≡ Some block → IsValid c block
+  pub hot : (c : List ℕ) → set.contains s.hot c ≡ true → map.contains_key s.kept c ≡ true
+  pub all_hot : s.config.mode ≡ Mode.Discard → (c : List ℕ) → map.contains_key s.kept c ≡ true → set.contains s.hot c ≡ true
+  pub rows : map.len s.kept ≤ s.config.rows
+  pub head : (height : ℕ) (cids : List (List ℕ)) → s.head ≡ Some (height, cids) → IsHead s.kept cids height
+  pub views : (v : ℕ) → set.contains s.views v ≡ true → v < 1024

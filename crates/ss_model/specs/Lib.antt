@@ -1,5 +1,4 @@
 pub mod State
 pub mod Head
 pub mod Lawful
-pub mod History
 pub mod Met

@@ -8,7 +8,7 @@ ghost use Rattle.ss_records.specs.declared.record.Record.{Record};
 ghost use Rattle.ss_records.specs.Record.{spelling};
 ghost use Rattle.ss_model.specs.State.{State, empty_state, closed};
 ghost use Rattle.ss_model.specs.Head.{blocks_of, head_need};
-ghost use Rattle.ss_model.specs.History.{IsProper, Legal, AfterAll};
+ghost use Rattle.ss_model.specs.Lawful.{IsProper, Legal, AfterAll};
 ghost use Rattle.ss_model.specs.Lawful.{is_open, pairs_need, Lawful, LawfulGet, After, after_put};
 ghost use Rattle.ss_model.specs.declared.TheConstants.{VIEWS, NO_VIEW, PUT_BLOCKS, PUT_BYTES, BLOCK_BYTES, COMPACTOR};
 ghost use Rattle.ss_model.specs.declared.call.Answer.{Answer};

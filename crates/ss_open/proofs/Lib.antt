@@ -1,2 +1,2 @@
-mod Makings
+pub mod Makings
 pub mod Openings

@@ -1,15 +1,17 @@
 -- What making a store does to the files.
 use Rattle.std.proofs.Common.{◌≡◌, inl, inr, ⊎_elim, ℕ, ◌+◌, ◌<◌, ◌≤◌, true, false, List, [], refl, sym, ap, ◌∙◌, subst, true≢false, arith}
-use Rattle.std.specs.Prelude.{IsTrue, Result, Ok, Err, is_err, IfOk, OnOk, OnErr}
+use Rattle.std.specs.Prelude.{IsTrue, Result, Ok, Err, is_err, IfOk, IfErr, OnOk, OnErr}
 use Rattle.std.proofs.lemmas.Bool.{cases_lt}
 use Rattle.ss_disk.specs.declared.disk.Disk.{Ghosts}
-use Rattle.ss_disk.specs.Disk.{Files, Torn, Same, Changes}
+use Rattle.ss_disk.specs.Disk.{Files, Torn, Same, Changes, Rose}
 use Rattle.ss_disk.specs.Calls.{Goes, Touches}
 use Rattle.ss_disk.proofs.Goes.{goes_on}
 use Rattle.ss_disk.proofs.Moments as moments
 use Rattle.ss_gatelog.specs.Log.{Spells, HasList}
-use Rattle.ss_gatelog.specs.GateLog.{Log, IsSure}
-use Rattle.ss_open.specs.Opening.{KeepsFirst, EmptiesFirst, AreEmptyBeside}
+use Rattle.ss_gatelog.specs.GateLog.{Log, IsSure, CountsFault}
+use Rattle.ss_records.specs.declared.record.Config.{Config as Settings}
+use Rattle.ss_open.specs.Opening.{HasNoStore, KeepsFirst, EmptiesFirst, AreEmptyBeside, IsInitFault, Inits}
+use Rattle.ss_open.specs.declared.fault.OpenFault.{OpenFault}
 
 -- what holds where a call succeeds
 pub when_ok : {T E : Type 0} (r : Result T E) (P : Type 0) → is_err r ≡ false → OnOk r P → P
@@ -79,3 +81,26 @@ module _ {D : Type 0} (disk : Ghosts D) where
 
     pub only_read : (old new : D) → Goes disk Same old new → EmptiesFirst disk limit old new
     only_read old new same = moments.widens (disk.moment old) (disk.moment new) (disk.image old) (disk.image new) Same _ (same.images told) (λ a b left is. inl (ap (λ (f : Files). f 0) is))
+
+-- ---- what making comes to
+
+-- no fault was counted
+pub count_none : {T : Type 0} (before now : ℕ) (r : Result T OpenFault) → now ≡ before → (r ≡ Err OpenFault.DiskFault → ⊥) → CountsFault OpenFault.DiskFault before now r
+count_none before now r same other = record { later = omega (arith, same); rose = λ is. absurd (other is); kept = inr same }
+
+-- the last call's
+pub count_rise : {T : Type 0} (before mid now : ℕ) → mid ≡ before → mid ≤ now → Rose mid now → CountsFault {T = T} OpenFault.DiskFault before now (Err OpenFault.DiskFault)
+count_rise before mid now same later rose = record { later = omega (arith, same, later); rose = λ _. subst (λ (n : ℕ). Rose n now) same rose; kept = inl refl }
+
+module _ {D T : Type 0} (disk : Ghosts D) (was now : D) (settings : Settings) (r : Result T OpenFault) where
+  -- no file changed
+  pub inits_none : IfErr r IsInitFault → Goes disk Same was now → CountsFault OpenFault.DiskFault (disk.faults was) (disk.faults now) r → Inits disk was now settings r
+  inits_none errors goes counts = record { errors = errors; counts = counts; kept = λ told. inr goes; memory = λ _. goes; stops = λ told. only_read disk told settings.limit was now goes }
+
+  -- there was no store, and files were emptied
+  pub inits_emptied : IfErr r IsInitFault → (IsTrue disk.told → HasNoStore (disk.files was 0)) → (r ≡ Err OpenFault.NoMemory → ⊥) → CountsFault OpenFault.DiskFault (disk.faults was) (disk.faults now) r → (IsTrue disk.told → EmptiesFirst disk settings.limit was now) → Inits disk was now settings r
+  inits_emptied errors none other counts stops = record { errors = errors; counts = counts; kept = λ told. inl (none told); memory = λ is. absurd (other is); stops = stops }
+
+  -- an answer other than the disk's fault: none was counted
+  pub none_risen : Inits disk was now settings r → (r ≡ Err OpenFault.DiskFault → ⊥) → disk.faults now ≡ disk.faults was
+  none_risen inits other = ⊎_elim (λ same. absurd (other same)) (λ kept. kept) inits.counts.kept

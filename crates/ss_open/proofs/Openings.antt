@@ -19,17 +19,17 @@ use Rattle.ss_store.specs.Append.{bodies}
 use Rattle.ss_store.specs.declared.fault.StoreFault.{StoreFault}
 use Rattle.ss_store.specs.declared.fault.StoreFault.TheVariants as store_fault
 use Rattle.ss_hot.specs.Half.{hot_blocks, head_of, base_of}
-use Rattle.ss_hot.specs.File.{HasSettings, IsHalf}
+use Rattle.ss_hot.specs.Half.{HasSettings, IsHalf}
 use Rattle.ss_hot.proofs.EachReading.{each_reading}
 use Rattle.ss_hot.proofs.Places.{places_len}
 use Rattle.ss_hot.proofs.Readings.{settings_once, records_once, apart, place_once}
-use Rattle.ss_hot.specs.Store.{Hot, Keeps}
+use Rattle.ss_hot.specs.Store.{Hot, Keeps, first_records, IsOpeningFault}
 use Rattle.ss_model.specs.State.{State, empty_state}
 use Rattle.ss_core.specs.declared.split_core.SplitCore.{SplitCore}
 use Rattle.ss_core.specs.StandsFor.{IsLeftBy, HasState, StandsFor}
 use Rattle.ss_core.proofs.Images.{end_of}
 use Rattle.ss_core.proofs.Settling.{keeps_sure}
-use Rattle.ss_open.specs.Opening.{IsOpeningFault, open_fault, HasTooMany, IsDamagedStore, IsOpenFault, Opens, first_records}
+use Rattle.ss_open.specs.Opening.{open_fault, HasTooMany, IsDamagedStore, IsOpenFault, Opens}
 use Rattle.ss_open.specs.declared.fault.OpenFault.{OpenFault}
 use Rattle.ss_open.specs.declared.fault.OpenFault.TheVariants as opening
 
@@ -73,25 +73,26 @@ opened disk now file hot core records half keeps sure same few stands =
 fault_is : {D : Type 0} {disk : Ghosts D} (x y : OpenFault) (b c : D) → ◌≡◌ {A = Result (SplitCore D disk) (OpenFault × D)} (Err (x, b)) (Err (y, c)) → x ≡ y
 fault_is {D = D} x y b c same = let pair : ◌≡◌ {A = OpenFault × D} (x, b) (y, c) = cc (same) in ap (λ (p : OpenFault × D). p.0) pair
 
+-- a fault that is not the disk's: none was counted
+pub counted_none : {T : Type 0} (before now : ℕ) (f : StoreFault) → (f ≡ store_fault.DiskFault → ⊥) → CountsFault {T = T} store_fault.DiskFault before now (Err f) → now ≡ before
+counted_none {T = T} before now f other counts = ⊎_elim (λ (same : ◌≡◌ {A = Result T StoreFault} (Err f) (Err store_fault.DiskFault)). absurd (other (cc (same)))) (λ kept. kept) counts.kept
+
 -- a store that is not opened for a fault of its log
 pub not_opened : {D T : Type 0} (disk : Ghosts D) (was back : D) (f : StoreFault) (r : OpenFault) → r ≡ open_fault f → IsOpeningFault f → ((file at : ℕ) → f ≡ store_fault.Damaged file at → file ≡ 0)
     → CountsFault {T = T} store_fault.DiskFault (disk.faults was) (disk.faults back) (Err f) → Goes disk Same was back → Opens {D = D} {disk = disk} was (Err (r, back))
 not_opened {D = D} {T = T} disk was back f r is able in_hot counts goes = subst (λ (r : OpenFault). Opens {D = D} {disk = disk} was (Err (r, back))) (sym is) (at f able in_hot counts)
   where
-    kept : (x : StoreFault) → (x ≡ store_fault.DiskFault → ⊥) → CountsFault {T = T} store_fault.DiskFault (disk.faults was) (disk.faults back) (Err x) → disk.faults back ≡ disk.faults was
-    kept x other counts = ⊎_elim (λ (same : ◌≡◌ {A = Result T StoreFault} (Err x) (Err store_fault.DiskFault)). absurd (other (cc (same)))) (λ kept. kept) counts.kept
-
     at : (x : StoreFault) → IsOpeningFault x → ((file at : ℕ) → x ≡ store_fault.Damaged file at → file ≡ 0) → CountsFault {T = T} store_fault.DiskFault (disk.faults was) (disk.faults back) (Err x) → Opens {D = D} {disk = disk} was (Err (open_fault x, back))
-    at store_fault.NoMemory able in_hot counts = record { fits = tt; views = tt; errors = λ y c same. subst IsOpenFault (fault_is opening.NoMemory y back c same) tt; counts = kept store_fault.NoMemory (λ wrong. let differ : ⊥ = cc (wrong) in differ) counts; goes = goes }
+    at store_fault.NoMemory able in_hot counts = record { fits = tt; views = tt; errors = λ y c same. subst IsOpenFault (fault_is opening.NoMemory y back c same) tt; counts = counted_none _ _ store_fault.NoMemory (λ wrong. let differ : ⊥ = cc (wrong) in differ) counts; goes = goes }
     at store_fault.DiskFault able in_hot counts = record { fits = tt; views = tt; errors = λ y c same. subst IsOpenFault (fault_is opening.DiskFault y back c same) tt; counts = counts.rose refl; goes = goes }
     at (store_fault.Damaged file place) able in_hot counts = record {
       fits = tt;
       views = tt;
       errors = λ y c same. subst IsOpenFault (fault_is (opening.Damaged file place) y back c same) (in_hot file place refl);
-      counts = kept (store_fault.Damaged file place) (λ wrong. let differ : ⊥ = cc (wrong) in differ) counts;
+      counts = counted_none _ _ (store_fault.Damaged file place) (λ wrong. let differ : ⊥ = cc (wrong) in differ) counts;
       goes = goes;
     }
-    at (store_fault.LogFull file need room) able in_hot counts = absurd able
+    at (store_fault.LogFull file need room) able in_hot counts = absurd (able file need room refl)
 
 -- ---- a file has a state or is damaged
 
@@ -151,10 +152,3 @@ made file settings half = (
   length (spelled (bodies (first_records settings))),
   record { settings = settings; records = first_records settings; half = half; state = none_left settings; closed = refl; ends = refl },
 )
-
--- the fault of a log that is not full is one of a log that is read
-pub able : (f : StoreFault) → ((file need room : ℕ) → f ≡ store_fault.LogFull file need room → ⊥) → IsOpeningFault f
-able store_fault.NoMemory full = tt
-able store_fault.DiskFault full = tt
-able (store_fault.Damaged file at) full = tt
-able (store_fault.LogFull file need room) full = absurd (full file need room refl)

@@ -1,20 +1,15 @@
 -- What opening a store, and making one, come to.
-use Rattle.std.specs.Prelude.{◌≡◌, ◌⊎◌, ℕ, ◌<◌, ◌≤◌, List, [], None, Result, Ok, Err, IsTrue, IfOk, ◌∷◌}
+use Rattle.std.specs.Prelude.{◌≡◌, ◌⊎◌, ℕ, ◌<◌, ◌≤◌, List, [], None, Result, Ok, Err, IsTrue, IfOk, IfErr}
 use Rattle.ss_disk.specs.{declared.disk.Disk.Ghosts, Disk.{Files, Same, Evolves, Rose}, Calls.Goes}
-use Rattle.ss_gatelog.specs.Log.{HasList}
+use Rattle.ss_gatelog.specs.{Log.HasList, GateLog.CountsFault}
 use Rattle.ss_records.specs.{declared.record.Config.Config as Settings, declared.record.Record.Record, Record.SettingsFit}
-use Rattle.ss_hot.specs.{Half.hot_blocks, File.{HasSettings, IsHalf, IsDamagedHalf}}
+use Rattle.ss_hot.specs.{Half.{hot_blocks, HasSettings, IsHalf, IsDamagedHalf}}
 use Rattle.ss_model.specs.State.{State, empty_state}
 use Rattle.ss_core.specs.{declared.split_core.SplitCore.SplitCore, StandsFor.{HasState, StandsFor}}
 use Rattle.ss_open.specs.declared.fault.OpenFault.{OpenFault}
 use Rattle.ss_store.specs.declared.fault.StoreFault.{StoreFault}
 use Rattle.std.specs.FinMap as finite_map
 use Rattle.std.specs.FinSet as finite_set
-
--- the fault of a log that is read
-abbrev pub IsOpeningFault : StoreFault → Type 0
-IsOpeningFault (StoreFault.LogFull file need room) = ⊥
-IsOpeningFault _ = Unit {0}
 
 -- the fault with which a store is not opened, by that of its log
 abbrev pub open_fault : StoreFault → OpenFault
@@ -27,17 +22,13 @@ open_fault (StoreFault.LogFull file need room) = OpenFault.DiskFault
 abbrev pub HasNoStore : List ℕ → Type 0
 HasNoStore file = (settings : Settings) → HasSettings file settings → ⊥
 
--- the offset of the settings' gate, after the record of a generation
-abbrev pub settings_gate : ℕ
-settings_gate = 14
-
 -- more blocks are kept than the settings allow
 abbrev pub HasTooMany : List ℕ → Type 0
 HasTooMany file = (settings : Settings) × (records : List Record) × IsHalf file settings records × (settings.rows < finite_map.len (hot_blocks records))
 
--- The file is of a store, and damaged at this offset: at the first record at fault, or, where only too many blocks are kept, at the settings.
+-- The file is of a store, and damaged here: at the first record at fault, or, where only too many blocks are kept, at the settings' gate.
 abbrev pub IsDamagedStore : List ℕ → ℕ → Type 0
-IsDamagedStore file at = IsDamagedHalf file at ⊎ (HasTooMany file × (at ≡ settings_gate))
+IsDamagedStore file at = IsDamagedHalf file at ⊎ (HasTooMany file × (at ≡ 14))
 
 -- each file but that of the hot log is an empty log
 abbrev pub AreEmptyBeside : ℕ → Files → Type 0
@@ -52,6 +43,11 @@ IsNewStore disk now settings =
 abbrev pub disk_of : {D : Type 0} {disk : Ghosts D} → Result (SplitCore D disk) (OpenFault × D) → D
 disk_of (Ok core) = core.disk
 disk_of (Err (fault, back)) = back
+
+-- the answer without it
+abbrev pub answer_of : {D : Type 0} {disk : Ghosts D} → Result (SplitCore D disk) (OpenFault × D) → Result (SplitCore D disk) OpenFault
+answer_of (Ok core) = Ok core
+answer_of (Err (fault, back)) = Err fault
 
 -- A fault that the disk counted is answered as one, and nothing else is.
 abbrev pub CountsOpening : {D : Type 0} {disk : Ghosts D} → ℕ → ℕ → Result (SplitCore D disk) (OpenFault × D) → Type 0
@@ -92,18 +88,6 @@ IsInitFault OpenFault.NoStore = ⊥
 IsInitFault (OpenFault.Damaged file at) = ⊥
 IsInitFault _ = Unit {0}
 
--- Where a store is, or memory is missing, no file changes. Each image since has the hot log's file as one then had it, or all others empty logs.
-pub record Inits {D : Type 0} {disk : Ghosts D} (was : D) (settings : Settings) (result : Result (SplitCore D disk) (OpenFault × D)) : Type 0 where
-  pub errors : (fault : OpenFault) (back : D) → result ≡ Err (fault, back) → IsInitFault fault
-  pub counts : CountsOpening (disk.faults was) (disk.faults (disk_of result)) result
-  pub kept : IsTrue disk.told → HasNoStore (disk.files was 0) ⊎ Goes disk Same was (disk_of result)
-  pub memory : (back : D) → result ≡ Err (OpenFault.NoMemory, back) → Goes disk Same was back
-  pub stops : IsTrue disk.told → Evolves (disk.moment was) (disk.image was) (disk.moment (disk_of result)) (disk.image (disk_of result)) (λ old new. (new 0 ≡ old 0) ⊎ AreEmptyBeside settings.limit new)
-
--- the records of a new store
-abbrev pub first_records : Settings → List Record
-first_records settings = Record.Generation 1 ∷ Record.Config settings ∷ []
-
 -- the hot log's file stays
 abbrev pub KeepsFirst : Files → Files → Type 0
 KeepsFirst old new = new 0 ≡ old 0
@@ -111,3 +95,11 @@ KeepsFirst old new = new 0 ≡ old 0
 -- each image since has the hot log's file as an image then had it, or all other files are empty logs
 abbrev pub EmptiesFirst : {D : Type 0} → Ghosts D → ℕ → D → D → Type 0
 EmptiesFirst disk limit old new = Evolves (disk.moment old) (disk.image old) (disk.moment new) (disk.image new) (λ a b. (b 0 ≡ a 0) ⊎ AreEmptyBeside limit b)
+
+-- Where a store is, or memory is missing, no file changes. Each image since has the hot log's file as one then had it, or all others empty logs.
+pub record Inits {D T : Type 0} (disk : Ghosts D) (was now : D) (settings : Settings) (result : Result T OpenFault) : Type 0 where
+  pub errors : IfErr result IsInitFault
+  pub counts : CountsFault OpenFault.DiskFault (disk.faults was) (disk.faults now) result
+  pub kept : IsTrue disk.told → HasNoStore (disk.files was 0) ⊎ Goes disk Same was now
+  pub memory : result ≡ Err OpenFault.NoMemory → Goes disk Same was now
+  pub stops : IsTrue disk.told → EmptiesFirst disk settings.limit was now

@@ -1,5 +1,6 @@
 ghost use Rattle.std.specs.Prelude.{◌≡◌};
-ghost use Rattle.ss_open.specs.Opening.{IsOpeningFault, open_fault};
+ghost use Rattle.ss_hot.specs.Store.{IsOpeningFault};
+ghost use Rattle.ss_open.specs.Opening.{open_fault};
 
 use ss_store::StoreFault;
 

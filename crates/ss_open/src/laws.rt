@@ -2,7 +2,7 @@
 
 ghost use Rattle.std.specs.Prelude.{◌≡◌, ◌⊎◌, ◌<◌, ℕ, List, slice_index};
 ghost use Rattle.ss_records.specs.declared.record.Config.{Config as Settings};
-ghost use Rattle.ss_hot.specs.File.{HasSettings};
+ghost use Rattle.ss_hot.specs.Half.{HasSettings};
 ghost use Rattle.ss_model.specs.State.{State};
 ghost use Rattle.ss_core.specs.StandsFor.{HasState};
 ghost use Rattle.ss_open.specs.Opening.{IsDamagedStore};

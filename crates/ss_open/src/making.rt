@@ -1,12 +1,10 @@
-ghost use Rattle.std.specs.Prelude.{◌≡◌, ◌⊎◌, ◌^◌, ◌≤◌, [], false, Err, IsTrue, IfOk, IfErr, OnOk};
-ghost use Rattle.std.specs.FinMap as finite_map;
-ghost use Rattle.ss_disk.specs.Disk.{Files, Same, HasCause};
+ghost use Rattle.std.specs.Prelude.{◌≡◌, ◌^◌, ◌≤◌, Err, IsTrue, IfOk, OnOk};
+ghost use Rattle.ss_disk.specs.Disk.{Files, HasCause};
 ghost use Rattle.ss_disk.specs.Calls.{Goes};
-ghost use Rattle.ss_gatelog.specs.GateLog.{CountsFault};
 ghost use Rattle.ss_records.specs.Record.{SettingsFit};
-ghost use Rattle.ss_hot.specs.File.{HasSettings};
-ghost use Rattle.ss_hot.specs.Store.{Keeps, IsKnown};
-ghost use Rattle.ss_open.specs.Opening.{HasNoStore, AreEmptyBeside, IsNewStore, IsInitFault, Made, Inits, KeepsFirst, EmptiesFirst, first_records};
+ghost use Rattle.ss_hot.specs.Half.{HasSettings};
+ghost use Rattle.ss_hot.specs.Store.{IsNew};
+ghost use Rattle.ss_open.specs.Opening.{HasNoStore, AreEmptyBeside, IsNewStore, Made, Inits, KeepsFirst, disk_of, answer_of};
 
 use crate::OpenFault;
 use crate::fault::open_fault;
@@ -24,7 +22,7 @@ use std::alloc::Global;
 pub fn init<D: Disk>(alloc: Global, disk: D, config: Config) -> Result<SplitCore<D>, (OpenFault, D)>
     requires { SettingsFit config }
     ensures told { IsTrue D.told → Made D.Disk disk config result }
-    ensures inits { Inits disk config result }
+    ensures inits { Inits D.Disk disk (disk_of result) config (answer_of result) }
 {
     let mut disk = disk;
     match make(alloc, &mut disk, config) {
@@ -36,19 +34,15 @@ pub fn init<D: Disk>(alloc: Global, disk: D, config: Config) -> Result<SplitCore
     }
 }
 
-// Makes the hot store, unless there is one. All memory is taken before a file is touched.
+// Makes the hot store, unless there is one. All memory is taken before a file is touched; the other files are emptied before
+// that of the hot log, so that nothing of an older store is left beside it.
 fn make<D: Disk>(alloc: Global, disk: &mut D, config: Config) -> Result<HotStore, OpenFault>
     requires { SettingsFit config }
-    ensures hot { IfOk result (λ hot. (hot.settings ≡ config) × (hot.places ≡ finite_map.empty) × (hot.log.unsure ≡ false) × (hot.log.file ≡ 0) × (hot.log.limit ≡ hot.settings.limit) × IsKnown D.Disk disk.new hot) }
-    ensures keeps { IsTrue D.told → IfOk result (λ hot. Keeps D.Disk disk.new hot (first_records config) []) }
+    ensures new { IfOk result (IsNew D.Disk disk.new config) }
     ensures images { IsTrue D.told → OnOk result (IsNewStore D.Disk disk.new config) }
     ensures not_there { IsTrue D.told → OnOk result (HasNoStore (D.files disk.old 0)) }
     ensures exists { result ≡ Err OpenFault.StoreExists → IsTrue D.told → (settings : _) × HasSettings (D.files disk.old 0) settings }
-    ensures kept { IsTrue D.told → HasNoStore (D.files disk.old 0) ⊎ Goes D.Disk Same disk.old disk.new }
-    ensures memory { result ≡ Err OpenFault.NoMemory → Goes D.Disk Same disk.old disk.new }
-    ensures errors { IfErr result IsInitFault }
-    ensures counts { CountsFault OpenFault.DiskFault (D.faults disk.old) (D.faults disk.new) result }
-    ensures stops { IsTrue D.told → EmptiesFirst D.Disk config.limit disk.old disk.new }
+    ensures inits { Inits D.Disk disk.old disk.new config result }
 {
     match HotStore::is_committed(alloc, disk) {
         Ok(false) => {}
@@ -58,35 +52,16 @@ fn make<D: Disk>(alloc: Global, disk: &mut D, config: Config) -> Result<HotStore
     let Ok(first) = FirstRecords::new(alloc, config) else {
         return Err(OpenFault::NoMemory);
     };
-    match write_first(alloc, disk, first, config.limit) {
-        Ok(hot) => Ok(hot),
-        Err(DiskFault) => Err(OpenFault::DiskFault),
-    }
-}
-
-// Empties all files, the hot log's last, and writes the first records there.
-fn write_first<D: Disk>(
-    alloc: Global,
-    disk: &mut D,
-    first: FirstRecords,
-    limit: u64,
-) -> Result<HotStore, DiskFault>
-    requires fits { SettingsFit first }
-    requires limit { limit ≡ first.limit }
-    ensures hot { IfOk result (λ hot. (hot.settings ≡ first) × (hot.places ≡ finite_map.empty) × (hot.log.unsure ≡ false) × (hot.log.file ≡ 0) × (hot.log.limit ≡ hot.settings.limit) × IsKnown D.Disk disk.new hot) }
-    ensures keeps { IsTrue D.told → IfOk result (λ hot. Keeps D.Disk disk.new hot (first_records first) []) }
-    ensures images { IsTrue D.told → OnOk result (IsNewStore D.Disk disk.new first) }
-    ensures cause { HasCause (D.faults disk.old) (D.faults disk.new) result }
-    ensures stops { IsTrue D.told → EmptiesFirst D.Disk limit disk.old disk.new }
-{
-    empty_files(disk, limit)?;
+    let Ok(()) = empty_files(disk, config.limit) else {
+        return Err(OpenFault::DiskFault);
+    };
     match first.write(alloc, disk) {
         Ok(hot) => Ok(hot),
-        Err(_) => Err(DiskFault),
+        Err(fault) => Err(open_fault(fault)),
     }
 }
 
-// Makes each file but that of the hot log an empty log, so that nothing of an older store is left there.
+// Makes each file but that of the hot log an empty log.
 fn empty_files<D: Disk>(disk: &mut D, limit: u64) -> Result<(), DiskFault>
     requires { (1 ≤ limit) × (limit ≤ 2 ^ 40) }
     ensures emptied { IsTrue D.told → OnOk result ((left : Files) → D.image disk.new (D.moment disk.new) left → AreEmptyBeside limit left) }

@@ -1,9 +1,8 @@
-//! Tests of the whole program over streams and disks in memory: what no clause of [`ss_app::run_alone`] says, and the built
-//! program cannot show. The tests of the built program are in `tests/`, at the top of the repository.
+//! Tests of the whole program over a disk in memory: what no clause of [`ss_app::run_alone`] says, and the built program cannot
+//! show. The tests of the built program are in `tests/`, at the top of the repository.
 //!
-//! A run is stopped at each call of its disk, with any of the crash images that the disk in memory makes, and run again; and
-//! each call of a stream or of the disk fails in turn. It has no code of its own, so that the crates below it are proved
-//! without these tests.
+//! A run is stopped at each call of its disk, with crash images that the disk in memory makes, and run again; and each call
+//! of the disk fails in turn. It has no code of its own, so that the crates below it are proved without these tests.
 #![tactic(auto)]
 
 #[cfg(test)]

@@ -1,8 +1,3 @@
-ghost use Rattle.std.specs.Prelude.{◌<◌};
-
-mod calls;
-mod crash;
-
 use ss_app::{Exit, run_alone};
 use ss_cid::Bytes;
 use ss_disk::{Disk, MemoryDisk};
@@ -10,16 +5,34 @@ use ss_io::{MemorySink, MemorySource};
 use std::alloc::Global;
 use std::test::Fail;
 
-// The digests of blocks are those that Python's hashlib computes.
-const ABC: &str = "01551220ba7816bf8f01cfea414140de5dae2223b00361a396177a9cb410ff61f20015ad";
+const INIT: [&str; 3] = ["init", "mode=discard", "depth=0"];
 
-const NOTHING: &str = "01551220e3b0c44298fc1c149afbf4c8996fb92427ae41e4649b934ca495991b7852b855";
+const TRACE: [&str; 1] = ["trace"];
 
-/// An array of one link, to the block of no bytes.
-const LINK: &str = "01711220e23ea7332f00f1a1e026c0c4628d7dbebe36dfd743c84a1e564c0efc387a97d8";
+// Three blocks are put: `abc`, no bytes, and an array of a link to the block of no bytes. Python's hashlib computes their
+// digests. The second put is of two new ones and of the first again.
+const LINES: [&str; 4] = [
+    "0 open\n",
+    "0 put 0 01551220ba7816bf8f01cfea414140de5dae2223b00361a396177a9cb410ff61f20015ad 616263\n",
+    "0 put 0 01551220e3b0c44298fc1c149afbf4c8996fb92427ae41e4649b934ca495991b7852b855 - 01551220ba7816bf8f01cfea414140de5dae2223b00361a396177a9cb410ff61f20015ad 616263 01711220e23ea7332f00f1a1e026c0c4628d7dbebe36dfd743c84a1e564c0efc387a97d8 81d82a58250001551220e3b0c44298fc1c149afbf4c8996fb92427ae41e4649b934ca495991b7852b855\n",
+    "0 get 0 01551220ba7816bf8f01cfea414140de5dae2223b00361a396177a9cb410ff61f20015ad\n",
+];
 
-const LINK_BYTES: &str =
-    "81d82a58250001551220e3b0c44298fc1c149afbf4c8996fb92427ae41e4649b934ca495991b7852b855";
+// The blocks that each line puts: a bit stands for a block.
+const PUTS: [u8; 4] = [0, 0b001, 0b111, 0];
+
+const READS: &str =
+    "0 open\n0 get 0 01551220ba7816bf8f01cfea414140de5dae2223b00361a396177a9cb410ff61f20015ad\n0 get 0 01551220e3b0c44298fc1c149afbf4c8996fb92427ae41e4649b934ca495991b7852b855\n0 get 0 01711220e23ea7332f00f1a1e026c0c4628d7dbebe36dfd743c84a1e564c0efc387a97d8\n";
+
+// How the lines end that find them.
+const FOUND: [(&str, u8); 3] = [
+    (" = found 616263", 1),
+    (" = found -", 2),
+    (
+        " = found 81d82a58250001551220e3b0c44298fc1c149afbf4c8996fb92427ae41e4649b934ca495991b7852b855",
+        4,
+    ),
+];
 
 /// What a run came to.
 #[derive(Drop)]
@@ -29,178 +42,248 @@ struct Ran {
     disk: MemoryDisk,
 }
 
-/// The call of an end, if any, that is to fail.
-#[derive(Clone, Copy)]
-enum Failing {
-    None,
-    Read(u64),
-    Put(u64),
+// The words of a command line.
+fn words_of(alloc: Global, words: &[&str]) -> Result<Vec<String>, Fail> {
+    let mut owned = Vec::new(alloc);
+    for word in words {
+        owned.push(String::from_str(alloc, word)?)?;
+    }
+    Ok(owned)
+}
+
+// What a run over these ends comes to. It says nothing of what the contract of a run does, so that no caller carries that.
+fn run_over(
+    alloc: Global,
+    words: &[String],
+    source: &mut MemorySource,
+    sink: &mut MemorySink,
+    disk: MemoryDisk,
+) -> (u8, MemoryDisk) {
+    let Exit { status, disk } = run_alone(alloc, words, source, sink, disk);
+    (status, disk)
 }
 
 // A run over ends in memory.
-fn run(alloc: Global, words: &str, script: &str, disk: MemoryDisk) -> Result<Ran, Fail> {
-    run_failing(alloc, words, script, disk, Failing::None)
-}
-
-// A run over ends in memory, of which one fails at this call.
-fn run_failing(
-    alloc: Global,
-    words: &str,
-    script: &str,
-    disk: MemoryDisk,
-    failing: Failing,
-) -> Result<Ran, Fail> {
-    let mut owned = Vec::new(alloc);
-    for word in words.split_whitespace() {
-        owned.push(String::from_str(alloc, word)?)?;
-    }
+fn run(alloc: Global, words: &[&str], script: &str, disk: MemoryDisk) -> Result<Ran, Fail> {
+    let words = words_of(alloc, words)?;
     let mut source = MemorySource::new(alloc, Bytes::from_slice(alloc, script.as_bytes())?);
     let mut sink = MemorySink::new(alloc);
-    match failing {
-        Failing::None => {}
-        Failing::Read(call) => source.fail_at(call)?,
-        Failing::Put(call) => sink.fail_at(call)?,
-    }
-    let Exit { status, disk } = run_alone(alloc, owned.as_slice(), &mut source, &mut sink, disk);
-    let written = String::from_utf8_lossy(alloc, sink.written())?;
+    let (status, disk) = run_over(alloc, words.as_slice(), &mut source, &mut sink, disk);
     Ok(Ran {
         status,
-        written,
+        written: String::from_utf8_lossy(alloc, sink.written())?,
         disk,
     })
 }
 
-// A disk with a store of these settings, of which no call is counted yet.
-fn made(alloc: Global, settings: &str) -> Result<MemoryDisk, Fail> {
-    let words = format!(in alloc; "init mode=discard {settings}")?;
-    let ran = run(alloc, words.as_str(), "", MemoryDisk::new(alloc)?)?;
+// A disk with a store, of which no call is counted yet.
+fn made(alloc: Global) -> Result<MemoryDisk, Fail> {
+    let ran = run(alloc, &INIT, "", MemoryDisk::new(alloc)?)?;
     Ok(ran.disk.crash(alloc, 0)?)
 }
 
-// What the lines that a run wrote say behind the call of an entry, and lines of another form whole.
-fn answers(alloc: Global, written: &str) -> Result<String, Fail> {
-    let mut answers = String::new(alloc);
-    for line in written.lines() {
-        let answer = match line.split_once(" = ") {
-            Some((_, answer)) => answer,
-            None => line,
+// A run of the first lines.
+fn run_lines(alloc: Global, count: usize, disk: MemoryDisk) -> Result<Ran, Fail> {
+    let mut script = String::new(alloc);
+    for line in LINES.iter().take(count) {
+        script.push_str(line)?;
+    }
+    run(alloc, &TRACE, script.as_str(), disk)
+}
+
+// The blocks of the puts that a run of the lines answered with `stored`.
+fn answered(written: &str) -> u8 {
+    let mut blocks = 0;
+    for (line, put) in written.lines().zip(PUTS) {
+        if line.contains(" = stored ") {
+            blocks |= put;
+        }
+    }
+    blocks
+}
+
+// A block if this line finds it, and nothing if it does not; 8 if it finds other bytes, or there is none.
+fn found_in(line: Option<&str>, found: &str, block: u8) -> u8 {
+    match line {
+        Some(line) if line.ends_with(found) => block,
+        Some(line) if line.ends_with(" = not-found") => 0,
+        _ => 8,
+    }
+}
+
+// The blocks that a run finds, of which each is found with its bytes or not at all.
+fn found(alloc: Global, disk: MemoryDisk) -> Result<u8, Fail> {
+    let ran = run(alloc, &TRACE, READS, disk)?;
+    let mut lines = ran.written.lines();
+    let mut blocks = if lines.next().is_some() {
+        ran.status
+    } else {
+        8
+    };
+    for (found, block) in FOUND {
+        blocks |= found_in(lines.next(), found, block);
+    }
+    Ok(blocks)
+}
+
+// Whether a stop after so many calls leaves these blocks where it loses what is not synced, those where it keeps that, and
+// the ones or the others where it does neither.
+fn leaves(alloc: Global, disk: &MemoryDisk, call: u64, lost: u8, kept: u8) -> Result<bool, Fail> {
+    for choice in 0..8u64 {
+        let found = found(alloc, disk.crash_at(alloc, call.min(disk.calls()), choice)?)?;
+        let fits = match choice {
+            0 => found == lost,
+            1 => found == kept,
+            _ => found == lost || found == kept,
         };
-        if !answers.is_empty() {
-            answers.push_str("; ")?;
-        }
-        answers.push_str(answer)?;
-    }
-    Ok(answers)
-}
-
-// The bytes of a file.
-fn content(alloc: Global, disk: &mut MemoryDisk, file: u8) -> Result<Vec<u8>, Fail>
-    requires { file < 6 }
-{
-    let size = disk.size(file)?.min(1 << 20);
-    let mut bytes = vec![in alloc; 0u8; size as usize]?;
-    disk.read(file, 0, bytes.as_mut_slice())?;
-    Ok(bytes)
-}
-
-fn hot_log(alloc: Global, disk: &mut MemoryDisk) -> Result<Vec<u8>, Fail> {
-    content(alloc, disk, 0)
-}
-
-// A script that reads three blocks.
-fn reads(alloc: Global) -> Result<String, Fail> {
-    Ok(format!(in alloc; "0 open\n0 get 0 {ABC}\n0 get 0 {NOTHING}\n0 get 0 {LINK}\n")?)
-}
-
-// The answers of a run of that script, where these of the three are kept.
-fn found(alloc: Global, kept: &[bool]) -> Result<String, Fail> {
-    found_as(alloc, kept, ["616263", "-", LINK_BYTES])
-}
-
-// The same where the blocks have these bytes.
-fn found_as(alloc: Global, kept: &[bool], blocks: [&str; 3]) -> Result<String, Fail> {
-    let mut told = String::from_str(alloc, "opened 0")?;
-    for (kept, block) in kept.iter().zip(blocks) {
-        if *kept {
-            told.push_str("; found ")?;
-            told.push_str(block)?;
-        } else {
-            told.push_str("; not-found")?;
+        if !fits {
+            return Ok(false);
         }
     }
-    Ok(told)
+    Ok(true)
 }
 
-// A run of that script: its status and its answers.
-fn reading(alloc: Global, disk: MemoryDisk) -> Result<(u8, String), Fail> {
-    let ran = run(alloc, "trace", reads(alloc)?.as_str(), disk)?;
-    Ok((ran.status, answers(alloc, ran.written.as_str())?))
+// The blocks whose puts have ended after so many calls, where the two end after these.
+fn ended(call: u64, ends: [u64; 2]) -> u8 {
+    match (call >= ends[0], call >= ends[1]) {
+        (_, true) => PUTS[2],
+        (true, _) => PUTS[1],
+        _ => 0,
+    }
+}
+
+// How many calls of the disk a run of the first lines makes.
+fn calls(alloc: Global, count: usize) -> Result<u64, Fail> {
+    Ok(run_lines(alloc, count, made(alloc)?)?.disk.calls())
 }
 
 #[test]
-fn ends_that_fail(rt: HostRuntime) -> Result<(), Fail> {
-    // Two reads take the script, and a third finds its end.
-    let comment = "#".repeat(rt.alloc(), 70_000)?;
-    let script = format!(in rt.alloc(); "0 open\n{comment}")?;
-    let line = "1 0 1 open = opened 0\n";
-    for call in 0..4 {
-        let disk = made(rt.alloc(), "depth=0")?;
-        let ran = run_failing(
-            rt.alloc(),
-            "trace",
-            script.as_str(),
-            disk,
-            Failing::Read(call),
-        )?;
-        let wanted = if call < 3 {
-            (4, "error: read fault\n")
-        } else {
-            (0, line)
-        };
-        assert_eq!(rt;
-            (ran.status, ran.written.as_str()),
-            wanted,
-            "at read {call}"
-        );
-    }
-    // Each line is eleven puts, and after three lines comes the flush. A put that fails leaves a prefix of them.
-    let script = "0 open\n1 open\n2 open\n";
-    let lines = "1 0 1 open = opened 0\n2 1 2 open = opened 1\n3 2 3 open = opened 2\n";
-    let mut written = 0;
-    for call in 0..35 {
-        let disk = made(rt.alloc(), "depth=0")?;
-        let ran = run_failing(rt.alloc(), "trace", script, disk, Failing::Put(call))?;
-        let status = if call < 34 { 5 } else { 0 };
-        assert_eq!(rt; ran.status, status, "at put {call}");
-        assert!(rt; lines.starts_with(ran.written.as_str()), "at put {call}");
+fn a_stop_leaves_each_put_that_was_answered(rt: HostRuntime) -> Result<(), Fail> {
+    let ends = [calls(rt.alloc(), 2)?, calls(rt.alloc(), 3)?];
+    // A put makes four calls: it writes its record and syncs it, then the gate, and syncs that.
+    assert_eq!(rt; ends[1].checked_sub(ends[0]), Some(4));
+    let ran = run_lines(rt.alloc(), 4, made(rt.alloc())?)?;
+    assert_eq!(rt; answered(ran.written.as_str()), PUTS[2]);
+    for call in 0..=ran.disk.calls() {
+        let lost = ended(call, ends);
+        let kept = ended(call.saturating_add(1), ends);
         assert!(rt;
-            call == 0 || written < ran.written.len() || call > 32,
-            "at put {call}"
+            leaves(rt.alloc(), &ran.disk, call, lost, kept)?,
+            "after {call} calls"
         );
-        written = ran.written.len();
     }
-    assert_eq!(rt; written, lines.len());
     Ok(())
 }
 
+// Whether a run whose disk fails at this call leaves just the blocks whose puts it answered, however it stops: the call
+// behind a put that failed undoes what is left of it.
+fn goes_on(alloc: Global, call: u64) -> Result<bool, Fail> {
+    let mut disk = made(alloc)?;
+    disk.fail_at(call)?;
+    let ran = run_lines(alloc, 4, disk)?;
+    let blocks = answered(ran.written.as_str());
+    Ok(ran.disk.faults() == 1 && leaves(alloc, &ran.disk, ran.disk.calls(), blocks, blocks)?)
+}
+
+// Whether a run whose disk fails at this call and at the next, which may be that of settling, leaves each block whose put it
+// answered, and none with other bytes. A put that failed may be in doubt to the end.
+fn keeps_answered(alloc: Global, call: u64) -> Result<bool, Fail> {
+    let mut disk = made(alloc)?;
+    disk.fail_at(call)?;
+    disk.fail_at(call.saturating_add(1))?;
+    let ran = run_lines(alloc, 4, disk)?;
+    let blocks = answered(ran.written.as_str());
+    for choice in 0..8u64 {
+        let found = found(alloc, ran.disk.crash_at(alloc, ran.disk.calls(), choice)?)?;
+        if found & (blocks | 8) != blocks {
+            return Ok(false);
+        }
+    }
+    Ok(true)
+}
+
 #[test]
-fn calls_go_on_when_the_sink_fails(rt: HostRuntime) -> Result<(), Fail> {
-    let disk = MemoryDisk::new(rt.alloc())?;
-    let ran = run_failing(rt.alloc(), "init mode=discard", "", disk, Failing::Put(0))?;
-    assert_eq!(rt; (ran.status, ran.written.as_str()), (5, ""));
-    // No line is written, and the block is put.
-    let script = format!(in rt.alloc(); "0 open\n0 put 0 {ABC} 616263\n")?;
-    let ran = run_failing(
-        rt.alloc(),
-        "trace",
-        script.as_str(),
-        ran.disk,
-        Failing::Put(0),
-    )?;
-    assert_eq!(rt; (ran.status, ran.written.as_str()), (5, ""));
-    assert_eq!(rt;
-        reading(rt.alloc(), ran.disk)?,
-        (0, found(rt.alloc(), &[true, false, false])?)
-    );
+fn a_store_goes_on_after_a_fault(rt: HostRuntime) -> Result<(), Fail> {
+    for call in 0..calls(rt.alloc(), 4)? {
+        assert!(rt; goes_on(rt.alloc(), call)?, "at call {call}");
+        assert!(rt;
+            keeps_answered(rt.alloc(), call)?,
+            "at call {call} and the next"
+        );
+    }
+    Ok(())
+}
+
+/// A log of one record, of a store that is gone: its gate is open.
+const OLD_LOG: [u8; 7] = [0xa5, 0, 0, 0, 1, 0x78, 0];
+
+// A disk without a store, on which each file but that of the hot log has an old record.
+fn with_old_logs(alloc: Global) -> Result<MemoryDisk, Fail> {
+    let mut disk = MemoryDisk::new(alloc)?;
+    for file in 1..6u8 {
+        disk.write(file, 0, &OLD_LOG)?;
+        disk.sync(file)?;
+    }
+    Ok(disk.crash(alloc, 0)?)
+}
+
+// Whether no file but that of the hot log has a record.
+fn others_are_empty(disk: &mut MemoryDisk) -> Result<bool, Fail> {
+    for file in 1..6u8 {
+        if disk.size(file)? > 0 {
+            let mut gate = [0];
+            disk.read(file, 0, &mut gate)?;
+            if gate[0] == OLD_LOG[0] {
+                return Ok(false);
+            }
+        }
+    }
+    Ok(true)
+}
+
+// Whether `init` makes a store or finds one made, without any block and with none of the old records.
+fn is_made_again(alloc: Global, disk: MemoryDisk) -> Result<bool, Fail> {
+    let mut ran = run(alloc, &INIT, "", disk)?;
+    let told = match ran.status {
+        0 => "store made\n",
+        7 => "error: store exists\n",
+        _ => "",
+    };
+    Ok(
+        ran.written.as_str() == told
+            && others_are_empty(&mut ran.disk)?
+            && found(alloc, ran.disk)? == 0,
+    )
+}
+
+// The same for all that a stop after so many calls may leave.
+fn are_made_again(alloc: Global, disk: &MemoryDisk, call: u64) -> Result<bool, Fail> {
+    for choice in 0..8u64 {
+        if !is_made_again(alloc, disk.crash_at(alloc, call.min(disk.calls()), choice)?)? {
+            return Ok(false);
+        }
+    }
+    Ok(true)
+}
+
+// The same where this call of the disk fails.
+fn is_made_after_fault(alloc: Global, call: u64) -> Result<bool, Fail> {
+    let mut disk = with_old_logs(alloc)?;
+    disk.fail_at(call)?;
+    let ran = run(alloc, &INIT, "", disk)?;
+    let is_told = ran.status == 6 && ran.written.as_str() == "error: disk fault\n";
+    Ok(is_told && are_made_again(alloc, &ran.disk, ran.disk.calls())?)
+}
+
+#[test]
+fn a_store_that_was_half_made_is_made_again(rt: HostRuntime) -> Result<(), Fail> {
+    let whole = run(rt.alloc(), &INIT, "", with_old_logs(rt.alloc())?)?.disk;
+    for call in 0..whole.calls() {
+        assert!(rt;
+            are_made_again(rt.alloc(), &whole, call)?,
+            "after {call} calls"
+        );
+        assert!(rt; is_made_after_fault(rt.alloc(), call)?, "at call {call}");
+    }
     Ok(())
 }

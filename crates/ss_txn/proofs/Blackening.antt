@@ -10,7 +10,7 @@ use Rattle.ss_marks.proofs.Colours.{by_bytes, exact}
 use Rattle.ss_marks.proofs.Using.{coloured_here, coloured_elsewhere}
 use Rattle.std.proofs.lemmas.Option.{same_Some}
 use Rattle.ss_txn.specs.Marked.{none_kept}
-use Rattle.ss_txn.specs.Changes.{MayShade, stays, shades, Protects, Blackens}
+use Rattle.ss_txn.specs.Marked.{MayShade, stays, shades, Protects, Blackens}
 use Rattle.ss_txn.proofs.Shading.{cases_cid, colour_in, black_not_white, same_then}
 
 coloured_same : (t : MarkTable) (cid : List ℕ) (row : ℕ) (colour : Colour) (new : MarkTable) → new ≡ coloured t cid row colour → new ≡ record t { marks = new.marks }

@@ -9,7 +9,7 @@ use Rattle.ss_chain.specs.declared.fetched.Fetched.TheVariants.{Found}
 use Rattle.ss_chain.specs.HeaderReading.{header_of}
 use Rattle.ss_chain.specs.Header.{links_in}
 use Rattle.ss_chain.specs.Follows.{followed}
-use Rattle.ss_txn.specs.Changes.{AreFollowed}
+use Rattle.ss_txn.specs.Marked.{AreFollowed}
 use Rattle.ss_txn.proofs.Paths.{none-Contains}
 
 followed-nothing : (edge : ℕ) (cid block : List ℕ) → eqb (codec_of cid) 0x71 ≡ false → followed edge cid block ≡ []

@@ -10,7 +10,7 @@ use Rattle.ss_marks.specs.declared.colour.Colour.{Colour}
 use Rattle.ss_marks.specs.declared.colour.Colour.TheVariants.{White, Grey, Black}
 use Rattle.ss_marks.specs.Marks.{Mark, MarkTable, mark_of, row_of, colour_of, whitened}
 use Rattle.ss_txn.specs.Marked.{none_kept, IsNotWhite, Protected, HasRows, Marked}
-use Rattle.ss_txn.specs.Changes.{KeepsRows, MayShade, stays, shades, Protects, Begins, Blackens, AreFollowed}
+use Rattle.ss_txn.specs.Marked.{KeepsRows, MayShade, stays, shades, Protects, Begins, Blackens, AreFollowed}
 use Rattle.ss_txn.proofs.Paths.{reach-from, reach-more, reach-kept, reach-on}
 use Rattle.ss_txn.proofs.Shading.{colour_in, cases_cid, black_not_white, may_keeps}
 

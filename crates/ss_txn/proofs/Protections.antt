@@ -6,7 +6,7 @@ use Rattle.ss_chain.specs.Follows.{followed}
 use Rattle.ss_chain.specs.Reach.{Reach}
 use Rattle.ss_marks.specs.Marks.{MarkTable, mark_of}
 use Rattle.ss_txn.specs.Marked.{none_kept, IsNotWhite}
-use Rattle.ss_txn.specs.Changes.{stays, Shades, Protects}
+use Rattle.ss_txn.specs.Marked.{stays, Shades, Protects}
 use Rattle.ss_txn.proofs.Paths.{reach-from, reach-more, reach-cases, reach-nothing, reach-itself, reach-stored, reach-identity, first-Contains, later-Contains, cases-Contains, none-Contains, leads-identity}
 use Rattle.ss_chain.proofs.Reached.{reach-next}
 use Rattle.ss_txn.proofs.Shading.{may_keeps, may_weaker, may_then, same_then}

@@ -1,14 +1,20 @@
 -- One scan: a row is popped, its links are protected, and it is black, or it is put back.
-use Rattle.std.proofs.Common.{◌≡◌, ◌≢◌, ℕ, List, Option, Some, sym, ap, subst, ◌∙◌}
+use Rattle.std.proofs.Common.{◌≡◌, ◌≢◌, ℕ, false, eqb, List, [], Option, Some, sym, ap, subst, ◌∙◌}
 use Rattle.std.specs.Prelude.{option_map}
+use Rattle.ss_cid.specs.Cid.{codec_of}
 use Rattle.ss_cid.specs.Maps.{Kept}
+use Rattle.ss_chain.specs.Fetch.{IsFetched}
+use Rattle.ss_chain.specs.Follows.{followed}
+use Rattle.ss_chain.specs.declared.fetched.Fetched.TheVariants.{Found}
 use Rattle.ss_marks.specs.declared.colour.Colour.TheVariants.{White, Grey, Out, Black}
 use Rattle.ss_marks.specs.Marks.{Mark, MarkTable, mark_of, row_of, coloured, IsLive, IsColoured, NoneIs, Recolours}
 use Rattle.ss_marks.proofs.Using.{coloured_here}
 use Rattle.ss_txn.specs.declared.scan_reply.ScanReply.{ScanReply}
 use Rattle.ss_txn.specs.declared.scan_reply.ScanReply.TheVariants.{Scanned, NothingGrey, Fault, NoMemory}
 use Rattle.ss_txn.specs.Marked.{Marked}
-use Rattle.ss_txn.specs.Changes.{KeepsRows, Scans, ScanDid, ProtectsFrom}
+use Rattle.ss_txn.specs.Marked.{KeepsRows, Protects, Scans, ScanDid, AreFollowed}
+use Rattle.ss_txn.proofs.Following.{found_links, without_links}
+use Rattle.ss_txn.proofs.Protections.{protects_none}
 use Rattle.ss_txn.proofs.Marking.{row_in, blackens_marked, blackens_rows}
 use Rattle.ss_txn.proofs.Blackening.{blackens_popped, popped_stays, put_back_same, coloured_by}
 
@@ -33,34 +39,50 @@ popped_of cid row old popped p only =
 pub popped_live : (row : ℕ) (old popped : MarkTable) → Recolours old popped row Grey Out → IsLive popped row
 popped_live row old popped p = record { cid = p.cid; is = ap row_in (out_here row old popped p) }
 
-module _ (edge : ℕ) (told : Option Kept) (cid : List ℕ) (row : ℕ) (old popped mid new : MarkTable) (p : Popped cid row old popped) where
-  read_out : ProtectsFrom edge told cid popped mid → mark_of mid cid ≡ Some (record { row = row; colour = Out })
-  read_out f = popped_stays edge f.links cid row old popped mid p.is f.protects
+-- What the block of a CID is followed to became protected.
+pub record ProtectsFrom (edge : ℕ) (told : Option Kept) (cid : List ℕ) (old new : MarkTable) : Type 0 where
+  pub links : List (List ℕ)
+  pub protects : Protects edge links old new
+  pub followed : (kept : Kept) → told ≡ Some kept → AreFollowed edge kept cid links
 
-  -- it can be blackened once its links are protected
-  pub out_when_read : ProtectsFrom edge told cid popped mid → IsColoured mid row Out
-  out_when_read f = coloured_by mid cid row Out (read_out f)
+module _ (edge : ℕ) (told : Option Kept) (cid : List ℕ) (old new : MarkTable) where
+  -- by a block that was fetched
+  pub from_found : (block bytes : List ℕ) → IsFetched told cid (Found block) → bytes ≡ block → Protects edge (followed edge cid bytes) old new → ProtectsFrom edge told cid old new
+  from_found block bytes found is protects = record { links = followed edge cid bytes; protects = protects; followed = λ kept told_is. subst (λ (b : List ℕ). AreFollowed edge kept cid (followed edge cid b)) (sym is) (found_links edge kept cid told block found told_is) }
 
-  pub scans_by : ProtectsFrom edge told cid popped mid → ((c : List ℕ) → row_of mid c ≡ Some row → new ≡ coloured mid c row Black) → Scans edge told old new
-  scans_by f black = record {
-    cid = cid;
-    row = row;
-    links = f.links;
-    blackens = blackens_popped edge f.links cid row old popped mid new p.was p.is f.protects (black cid (ap row_in (read_out f)));
-    followed = f.followed;
-  }
+  -- by none, where it has no links
+  pub from_none : eqb (codec_of cid) 0x71 ≡ false → new ≡ old → ProtectsFrom edge told cid old new
+  from_none other same = subst (λ (m : MarkTable). ProtectsFrom edge told cid old m) (sym same) (record { links = []; protects = protects_none edge old; followed = λ kept _. without_links edge kept cid other })
 
-  unread_out : mid ≡ popped → mark_of mid cid ≡ Some (record { row = row; colour = Out })
-  unread_out same = ap (λ t. mark_of t cid) (same ∙ p.is) ∙ coloured_here old cid row Out
+module _ (edge : ℕ) (told : Option Kept) (cid : List ℕ) (row : ℕ) (old popped : MarkTable) (p : Popped cid row old popped) where
+  module _ (mid : MarkTable) (f : ProtectsFrom edge told cid popped mid) where
+    read_out : mark_of mid cid ≡ Some (record { row = row; colour = Out })
+    read_out = popped_stays edge f.links cid row old popped mid p.is f.protects
+
+    -- it can be blackened once its links are protected
+    pub out_when_read : IsColoured mid row Out
+    out_when_read = coloured_by mid cid row Out read_out
+
+    pub scans_by : (new : MarkTable) → ((c : List ℕ) → row_of mid c ≡ Some row → new ≡ coloured mid c row Black) → Scans edge told old new
+    scans_by new black = record {
+      cid = cid;
+      row = row;
+      links = f.links;
+      blackens = blackens_popped edge f.links cid row old popped mid new p.was p.is f.protects (black cid (ap row_in read_out));
+      followed = f.followed;
+    }
+
+  unread_out : mark_of popped cid ≡ Some (record { row = row; colour = Out })
+  unread_out = ap (λ t. mark_of t cid) p.is ∙ coloured_here old cid row Out
 
   -- and put back if they are not
-  pub out_when_unread : mid ≡ popped → IsColoured mid row Out
-  out_when_unread same = coloured_by mid cid row Out (unread_out same)
+  pub out_when_unread : IsColoured popped row Out
+  out_when_unread = coloured_by popped cid row Out unread_out
 
-  pub unscanned_by : mid ≡ popped → ((c : List ℕ) → row_of mid c ≡ Some row → new ≡ coloured mid c row Grey) → (NoneIs Grey old → ⊥) × (new ≡ old)
-  unscanned_by same back = (
+  pub unscanned_by : (new : MarkTable) → ((c : List ℕ) → row_of popped c ≡ Some row → new ≡ coloured popped c row Grey) → (NoneIs Grey old → ⊥) × (new ≡ old)
+  unscanned_by new back = (
     λ none. none cid (ap (option_map (λ (mark : Mark). mark.colour)) p.was),
-    put_back_same cid row old mid new p.was (same ∙ p.is) (back cid (ap row_in (unread_out same))),
+    put_back_same cid row old popped new p.was p.is (back cid (ap row_in unread_out)),
   )
 
 grey_is_not_white : Grey ≢ White

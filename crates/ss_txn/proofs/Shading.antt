@@ -8,7 +8,7 @@ use Rattle.ss_marks.specs.declared.colour.Colour.TheVariants.{White, Grey, Out, 
 use Rattle.ss_marks.specs.Marks.{Mark, MarkTable, mark_of, row_of, colour_of, coloured}
 use Rattle.ss_marks.proofs.Marked.{eq_cid, eq_cid-itself, eq_cid-true}
 use Rattle.ss_marks.proofs.Using.{coloured_here, coloured_elsewhere}
-use Rattle.ss_txn.specs.Changes.{MayShade, stays, shades, Shades}
+use Rattle.ss_txn.specs.Marked.{MayShade, stays, shades, Shades}
 
 abbrev pub colour_in : Option Mark → Option Colour
 colour_in = option_map (λ (mark : Mark). mark.colour)

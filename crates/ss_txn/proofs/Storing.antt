@@ -15,7 +15,7 @@ use Rattle.ss_marks.specs.Marks.{MarkTable, mark_of, row_of, colour_of}
 use Rattle.ss_marks.proofs.Colours.{by_bytes}
 use Rattle.ss_marks.proofs.Marked.{eq_cid, eq_cid-itself, eq_cid-true}
 use Rattle.ss_txn.specs.Marked.{none_kept, IsNotWhite, HasRows, Marked, IsQuiet}
-use Rattle.ss_txn.specs.Changes.{Protects}
+use Rattle.ss_txn.specs.Marked.{Protects}
 use Rattle.ss_txn.proofs.Paths.{reach-itself, reach-more, reach-kept, reach-on}
 use Rattle.ss_txn.proofs.Shading.{cases_cid, colour_in, may_keeps}
 use Rattle.ss_txn.proofs.Marking.{row_in, may_row, may_black, may_shaded, protected_stays}

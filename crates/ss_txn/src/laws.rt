@@ -8,7 +8,7 @@ ghost use Rattle.ss_chain.specs.Reach.{Reach};
 ghost use Rattle.ss_marks.specs.declared.colour.Colour.TheVariants as colour;
 ghost use Rattle.ss_marks.specs.Marks.{MarkTable, mark_of, colour_of};
 ghost use Rattle.ss_txn.specs.Marked.{Protected, ByCases, Marked, IsQuiet};
-ghost use Rattle.ss_txn.specs.Changes.{Protects};
+ghost use Rattle.ss_txn.specs.Marked.{Protects};
 
 /// What is white once no row is grey or out is not reached from the roots: it may be discarded.
 pub fn quiet_and_white_is_not_reached()

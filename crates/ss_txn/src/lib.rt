@@ -18,7 +18,6 @@
 
 pub mod laws;
 mod protecting;
-mod reading;
 mod scan_reply;
 mod transaction;
 

@@ -1,7 +1,7 @@
 //! What is shaded so that CIDs are protected.
 ghost use Rattle.std.specs.Prelude.{[], ◌∷◌};
 ghost use Rattle.ss_chain.specs.Follows.{followed};
-ghost use Rattle.ss_txn.specs.Changes.{Shades, Protects};
+ghost use Rattle.ss_txn.specs.Marked.{Shades, Protects};
 
 use ss_chain::follows;
 use ss_cid::Cid;

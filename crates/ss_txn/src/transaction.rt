@@ -1,17 +1,16 @@
 //! A transaction.
-ghost use Rattle.std.specs.Prelude.{◌≡◌, ◌≢◌, ◌↔◌, ℕ, List, [], ◌∷◌, ◌++◌, Some, IsTrue};
+ghost use Rattle.std.specs.Prelude.{◌≡◌, ◌≢◌, ◌↔◌, ◌==◌, ℕ, List, [], ◌∷◌, ◌++◌, Some, IsTrue};
 ghost use Rattle.ss_cid.specs.Cid.{codec_of};
 ghost use Rattle.ss_cid.specs.Maps.{Kept};
 ghost use Rattle.ss_marks.specs.declared.colour.Colour.TheVariants as colour;
 ghost use Rattle.ss_marks.specs.Marks.{row_of, colour_of, IsColoured};
 ghost use Rattle.ss_txn.specs.Marked.{HasRows, HasRowsOf, Marked, IsQuiet};
-ghost use Rattle.ss_txn.specs.Changes.{KeepsRows, Protects, Begins, Blackens, AreFollowed, ScanDid, ScanCause};
+ghost use Rattle.ss_txn.specs.Marked.{KeepsRows, Protects, Begins, Blackens, AreFollowed, ScanDid, ScanCause};
 
-use crate::protecting::{protect_each, protect_one};
-use crate::reading::{Unread, protect_from_block};
+use crate::protecting::{protect_each, protect_followed, protect_one};
 use crate::scan_reply::ScanReply;
-use ss_chain::Blocks;
-use ss_cid::{Cid, Cids};
+use ss_chain::{Blocks, Fetched};
+use ss_cid::{Cid, Cids, Codec};
 use ss_marks::Marks;
 use std::alloc::Global;
 use std::marker::Model;
@@ -87,20 +86,24 @@ impl Txn {
             return ScanReply::NothingGrey;
         };
         let cid = marks.cid(row);
-        match protect_from_block(self.edge, alloc, marks, blocks, &cid) {
-            Ok(()) => {
-                marks.blacken(row);
-                ScanReply::Scanned
-            }
-            Err(Unread::Fault) => {
-                marks.put_back(row);
-                ScanReply::Fault
-            }
-            Err(Unread::NoMemory) => {
-                marks.put_back(row);
-                ScanReply::NoMemory
+        if may_have_links(&cid) {
+            match blocks.fetch(alloc, &cid) {
+                Fetched::Found(block) => {
+                    protect_followed(self.edge, marks, &cid, block.as_slice());
+                }
+                Fetched::Fault => {
+                    marks.put_back(row);
+                    return ScanReply::Fault;
+                }
+                Fetched::NoMemory => {
+                    marks.put_back(row);
+                    return ScanReply::NoMemory;
+                }
+                Fetched::NotFound => unreachable!(),
             }
         }
+        marks.blacken(row);
+        ScanReply::Scanned
     }
 
     /// Ends the reading of a row that is out, by the links that its block is followed to, which were read elsewhere: they
@@ -126,4 +129,11 @@ impl Txn {
         let (_, grey, out) = marks.counts();
         grey == 0 && out == 0
     }
+}
+
+/// Whether a block of this CID may have links: all others need not be fetched.
+fn may_have_links(cid: &Cid) -> bool
+    ensures { result ≡ (codec_of cid.now == 0x71) }
+{
+    cid.codec() == Codec::DagCbor
 }

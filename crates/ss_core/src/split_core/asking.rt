@@ -16,7 +16,7 @@ impl<D: Disk> SplitCore<D> {
     ghost use Rattle.ss_model.specs.declared.call.Call.TheVariants as call_kind;
     ghost use Rattle.ss_model.specs.declared.call.Answer.TheVariants as answer;
     ghost use Rattle.ss_core.specs.Calls.{Steps, Makes};
-    ghost use Rattle.ss_core.specs.Reads.{len_of};
+    ghost use Rattle.ss_core.specs.Replies.{len_of};
     ghost use Rattle.ss_core.specs.StandsFor.{StandsFor};
 
     /// Closes a view: `BadView` exactly where it is not open. Its number may be given again.

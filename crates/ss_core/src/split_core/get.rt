@@ -20,7 +20,7 @@ impl<D: Disk> SplitCore<D> {
     ghost use Rattle.ss_model.specs.declared.call.Call.TheVariants as call_kind;
     ghost use Rattle.ss_model.specs.declared.call.Answer.TheVariants as answer;
     ghost use Rattle.ss_core.specs.Calls.{Steps, Makes};
-    ghost use Rattle.ss_core.specs.Reads.{len_of, HasLen, LiesAt};
+    ghost use Rattle.ss_core.specs.Replies.{len_of, HasLen, LiesAt};
     ghost use Rattle.ss_core.specs.StandsFor.{StandsFor};
 
     /// Reads a block. A log in doubt is settled first.

@@ -23,8 +23,8 @@ impl<D: Disk> SplitCore<D> {
     ghost use Rattle.ss_model.specs.declared.call.Answer.TheVariants as answer;
     ghost use Rattle.ss_model.specs.declared.call.HeadReply.TheVariants as head;
     ghost use Rattle.ss_core.specs.Calls.{Steps, Makes};
-    ghost use Rattle.ss_core.specs.Effect.{head_effect};
-    ghost use Rattle.ss_core.specs.Reads.{OnlyReads, IsUnread, IsJudgement, IsJudged};
+    ghost use Rattle.ss_core.specs.Calls.{head_effect};
+    ghost use Rattle.ss_core.specs.Replies.{OnlyReads, IsUnread, IsJudgement, IsJudged};
     ghost use Rattle.ss_core.specs.StandsFor.{StandsFor};
 
     /// Sets a tipset as head, by one record. A log in doubt is settled first, and each block is read, one at a time.

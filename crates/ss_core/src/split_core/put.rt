@@ -1,6 +1,6 @@
 //! Puts.
 
-ghost use Rattle.std.specs.Prelude.{◌≡◌, ◌+◌, ◌-◌, ◌^◌, ◌≤◌, ℕ, List, [], length, min, max, Option, IsTrue, IfOk, IfErr, MatchResult};
+ghost use Rattle.std.specs.Prelude.{◌≡◌, ◌+◌, ◌-◌, ◌^◌, ◌≤◌, ℕ, List, length, min, max, Option, IfOk, MatchResult};
 ghost use Rattle.ss_records.specs.declared.record.Record.{Record};
 
 use super::{HOT, SplitCore};
@@ -19,10 +19,7 @@ impl<D: Disk> SplitCore<D> {
     ghost use Rattle.ss_model.specs.State.{State};
     ghost use Rattle.ss_model.specs.Lawful.{IsPassed, IsPutRefusal, body_bytes, new_pairs, put_bytes};
     ghost use Rattle.ss_model.specs.declared.TheConstants.{PUT_BLOCKS, PUT_BYTES};
-    ghost use Rattle.ss_model.specs.declared.call.Call.TheVariants as call_kind;
-    ghost use Rattle.ss_model.specs.declared.call.Answer.TheVariants as answer;
-    ghost use Rattle.ss_core.specs.Calls.{Steps, Makes};
-    ghost use Rattle.ss_core.specs.Puts.{IsLooked, IsReady, IsRefusal, IsDueTo, held_put_bytes};
+    ghost use Rattle.ss_core.specs.Replies.{IsLooked, IsReady, IsRefused, Puts, held_put_bytes};
     ghost use Rattle.ss_core.specs.StandsFor.{StandsFor};
 
     /// Stores the blocks of a parcel that are new, by one record. A log in doubt is settled first.
@@ -31,46 +28,32 @@ impl<D: Disk> SplitCore<D> {
     /// `TableFull`; `LogFull`; `DiskFault`, after which the record may be in doubt; `Stored`. All refusals leave what is
     /// kept. The disk is called only for `DiskFault`, for `Stored`, and for `NoMemory` if a record was in doubt.
     pub fn put(&mut self, alloc: Global, view: u32, parcel: &Parcel) -> PutReply
-        ensures told { IsTrue D.told → (s : State) (doubt : Option Record) → StandsFor self.old s doubt → Steps self.old self.new s doubt (call_kind.Put view parcel.now) (answer.Put result) }
-        ensures made { Makes self.old self.new (call_kind.Put view parcel.now) (answer.Put result) }
-        ensures due { IsDueTo self.old self.new view parcel.now result }
-        ensures views { self.new.views ≡ self.old.views }
+        ensures { Puts self.old self.new view parcel.now result }
     {
         let looked = match self.look_or_refuse(view, parcel) {
             Ok(looked) => looked,
             Err(refusal) => return refusal,
         };
         match fresh_blocks(alloc, parcel, &looked.kept) {
-            Ok(Fresh::Nothing) => self.put_nothing(),
+            // No record is written, but one that is in doubt is undone.
+            Ok(Fresh::Nothing) => match self.settle() {
+                Ok(()) => PutReply::Stored { new: 0 },
+                Err(fault) => put_fault(fault),
+            },
             Ok(Fresh::All) => self.put_fresh(alloc, parcel, looked.bytes),
             Ok(Fresh::Part(fresh)) => self.put_fresh(alloc, &fresh, body_bytes(&fresh)),
             Err(NoMemory) => PutReply::NoMemory,
         }
     }
 
-    // A put of blocks of which none is new: no record is written, but a record that is in doubt is undone.
-    fn put_nothing(&mut self) -> PutReply
-        ensures told { IsTrue D.told → (s : State) (doubt : Option Record) (view : ℕ) (pairs : List (List ℕ × List ℕ)) → StandsFor self.old s doubt → IsPassed s view pairs → new_pairs s.hot pairs ≡ [] → Steps self.old self.new s doubt (call_kind.Put view pairs) (answer.Put result) }
-        ensures made { (view : ℕ) (pairs : List (List ℕ × List ℕ)) → Makes self.old self.new (call_kind.Put view pairs) (answer.Put result) }
-        ensures due { (view : ℕ) (pairs : List (List ℕ × List ℕ)) → IsDueTo self.old self.new view pairs result }
-        ensures views { self.new.views ≡ self.old.views }
-    {
-        match self.settle() {
-            Ok(()) => PutReply::Stored { new: 0 },
-            Err(fault) => put_fault(fault),
-        }
-    }
-
-    // A put of these blocks, none of which is hot, by a record whose body has so many bytes.
+    // The put of a parcel of which these blocks are the new ones, by a record whose body has so many bytes.
     fn put_fresh(&mut self, alloc: Global, fresh: &Parcel, body: u64) -> PutReply
         requires blocks { Fits (record_kind.Put fresh.now) }
         requires short { body_bytes fresh.now ≤ PUT_BYTES }
         requires new { AreNotHot self.old.hot fresh.now }
         requires body { body ≡ body_bytes fresh.now }
-        ensures told { IsTrue D.told → (s : State) (doubt : Option Record) (view : ℕ) (pairs : List (List ℕ × List ℕ)) → StandsFor self.old s doubt → IsPassed s view pairs → new_pairs s.hot pairs ≡ fresh.now → Steps self.old self.new s doubt (call_kind.Put view pairs) (answer.Put result) }
-        ensures made { (view : ℕ) (pairs : List (List ℕ × List ℕ)) → Makes self.old self.new (call_kind.Put view pairs) (answer.Put result) }
-        ensures due { (view : ℕ) (pairs : List (List ℕ × List ℕ)) → IsDueTo self.old self.new view pairs result }
-        ensures views { self.new.views ≡ self.old.views }
+        ensures { (view : ℕ) (pairs : List (List ℕ × List ℕ)) → ((s : State) (doubt : Option Record) → StandsFor self.old s doubt → IsPassed s view pairs × (new_pairs s.hot pairs ≡ fresh.now)) →
+            Puts self.old self.new view pairs result }
     {
         let rows = self.kept_count() + fresh.len() as u64;
         if rows > u64::from(self.hot.config().rows) {
@@ -96,8 +79,7 @@ impl<D: Disk> SplitCore<D> {
     // What a look at the pairs of a parcel tells, or the refusal of its put that the state and the parcel decide.
     fn look_or_refuse(&self, view: u32, parcel: &Parcel) -> Result<Looked, PutReply>
         ensures decides { (s : State) (doubt : Option Record) → StandsFor self.now s doubt → MatchResult result (λ _. IsPassed s view parcel.now) (IsPutRefusal s view parcel.now) }
-        ensures ready { MatchResult result (λ _. IsReady parcel.now) IsRefusal }
-        ensures due { IfErr result (IsDueTo self.now self.now view parcel.now) }
+        ensures ready { MatchResult result (λ _. IsReady parcel.now) (IsRefused self.now view parcel.now) }
         ensures looked { IfOk result (IsLooked self.now.hot parcel.now) }
     {
         if !self.views.contains(view) {

@@ -1,13 +1,9 @@
-ghost use Rattle.std.specs.Prelude.{◌≡◌, ◌∷◌, [], false, Err, IsTrue, IfOk, OnOk};
-ghost use Rattle.std.specs.FinMap as finite_map;
-ghost use Rattle.ss_disk.specs.Disk.{Files};
+ghost use Rattle.std.specs.Prelude.{◌≡◌, Err, IfOk};
 ghost use Rattle.ss_disk.specs.Calls.{Touches};
 ghost use Rattle.ss_gatelog.specs.GateLog.{CountsFault};
-ghost use Rattle.ss_records.specs.declared.record.Record.TheVariants as record_kind;
 ghost use Rattle.ss_records.specs.Record.{SettingsFit};
 ghost use Rattle.ss_store.specs.declared.fault.StoreFault.{StoreFault};
 ghost use Rattle.ss_store.specs.declared.fault.StoreFault.TheVariants as fault;
-ghost use Rattle.ss_hot.specs.File.{IsHalf};
 
 use super::{FILE, HotStore};
 use ss_cid::NoMemory;
@@ -40,7 +36,7 @@ impl Model for FirstRecords {
 }
 
 impl FirstRecords {
-    ghost use Rattle.ss_hot.specs.Store.{Keeps, IsKnown};
+    ghost use Rattle.ss_hot.specs.Store.{IsNew};
 
     /// The records of a store with these settings.
     pub fn new(alloc: Global, config: Config) -> Result<FirstRecords, NoMemory>
@@ -58,13 +54,7 @@ impl FirstRecords {
     ///
     /// After `DiskFault`, the only fault, it may hold what it held, or a part of the new log.
     pub fn write<D: Disk>(self, alloc: Global, disk: &mut D) -> Result<HotStore, StoreFault>
-        ensures keeps { IsTrue D.told → IfOk result (λ store. Keeps D.Disk disk.new store (record_kind.Generation 1 ∷ record_kind.Config self ∷ []) []) }
-        ensures stands { IsTrue D.told → OnOk result ((left : Files) → D.image disk.new (D.moment disk.new) left → IsHalf (left 0) self (record_kind.Generation 1 ∷ record_kind.Config self ∷ [])) }
-        ensures settings { IfOk result (λ store. store.settings ≡ self) }
-        ensures places { IfOk result (λ store. store.places ≡ finite_map.empty) }
-        ensures sure { IfOk result (λ store. store.log.unsure ≡ false) }
-        ensures log { IfOk result (λ store. (store.log.file ≡ 0) × (store.log.limit ≡ store.settings.limit)) }
-        ensures known { IfOk result (λ store. IsKnown D.Disk disk.new store) }
+        ensures new { IfOk result (IsNew D.Disk disk.new self) }
         ensures touches { Touches D.Disk 0 disk.old disk.new }
         ensures errors { (e : StoreFault) → result ≡ Err e → e ≡ fault.DiskFault }
         ensures counts { CountsFault fault.DiskFault (D.faults disk.old) (D.faults disk.new) result }

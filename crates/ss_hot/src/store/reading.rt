@@ -1,8 +1,5 @@
-ghost use Rattle.std.specs.Prelude.{◌≡◌, ◌⊎◌, ◌^◌, ◌<◌, ℕ, List, IsTrue, length, Err, Ok, None, Some, IfOk, IfSome, OnOk, option_map, is_some};
+ghost use Rattle.std.specs.Prelude.{◌≡◌, ◌^◌, ◌<◌, ℕ, List, IsTrue, length, Err, Ok, None, Some, IfOk, IfSome, OnOk, option_map, is_some};
 ghost use Rattle.std.specs.FinMap as finite_map;
-ghost use Rattle.ss_disk.specs.Disk.{Same};
-ghost use Rattle.ss_disk.specs.Calls.{Goes};
-ghost use Rattle.ss_gatelog.specs.GateLog.{CountsFault};
 ghost use Rattle.ss_records.specs.declared.record.Record.{Record};
 ghost use Rattle.ss_hot.specs.Half.{hot_blocks};
 
@@ -14,9 +11,8 @@ use std::alloc::Global;
 
 impl HotStore {
     ghost use Rattle.ss_store.specs.Places.{next_key};
-    ghost use Rattle.ss_store.specs.declared.fault.StoreFault.{StoreFault};
     ghost use Rattle.ss_store.specs.declared.fault.StoreFault.TheVariants as fault;
-    ghost use Rattle.ss_hot.specs.Store.{Tells, Keeps, IsKnown, LiesIn};
+    ghost use Rattle.ss_hot.specs.Store.{Tells, Keeps, IsKnown, LiesIn, Reads, IsStop};
 
     /// The bytes of a hot block, by one read; of one that is not hot None, with no call of the disk. First `NoMemory`, with no
     /// call of the disk either, then `DiskFault`.
@@ -30,10 +26,8 @@ impl HotStore {
         ensures block { (records others : List Record) → IsTrue D.told → Keeps D.Disk disk.old self.now records others → IfOk result (λ found. found ≡ finite_map.get (hot_blocks records) cid.now) }
         ensures hot { IfOk result (λ found. is_some found ≡ is_some (finite_map.get self.now.places cid.now)) }
         ensures absent { finite_map.get self.now.places cid.now ≡ None → (result ≡ Ok None) × (disk.new ≡ disk.old) }
-        ensures errors { (e : StoreFault) → result ≡ Err e → (e ≡ fault.NoMemory) ⊎ (e ≡ fault.DiskFault) }
         ensures memory { result ≡ Err fault.NoMemory → disk.new ≡ disk.old }
-        ensures counts { CountsFault fault.DiskFault (D.faults disk.old) (D.faults disk.new) result }
-        ensures goes { Goes D.Disk Same disk.old disk.new }
+        ensures reads { Reads D.Disk disk.old disk.new IsStop result }
     {
         let Some(place) = self.place(cid) else {
             return Ok(None);
@@ -67,9 +61,7 @@ impl HotStore {
         requires len { length block.old ≡ place.len }
         ensures block { (cid : List ℕ) (records others : List Record) → IsTrue D.told → Keeps D.Disk disk.old self.now records others → finite_map.get self.now.places cid ≡ Some place → OnOk result (finite_map.get (hot_blocks records) cid ≡ Some block.new) }
         ensures len { length block.new ≡ length block.old }
-        ensures errors { (e : StoreFault) → result ≡ Err e → e ≡ fault.DiskFault }
-        ensures counts { CountsFault fault.DiskFault (D.faults disk.old) (D.faults disk.new) result }
-        ensures goes { Goes D.Disk Same disk.old disk.new }
+        ensures reads { Reads D.Disk disk.old disk.new (λ e. e ≡ fault.DiskFault) result }
     {
         match self.log.read_at(disk, place.at, block) {
             Ok(()) => Ok(()),

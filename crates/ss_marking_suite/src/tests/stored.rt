@@ -2,7 +2,8 @@ ghost use Rattle.std.specs.Prelude.{◌≡◌, [], true, None, is_some, IfSome, 
 ghost use Rattle.std.proofs.lemmas.Option.{none-some};
 ghost use Rattle.ss_cid.specs.Cid.{digest_of};
 ghost use Rattle.ss_chain.specs.Fetch.{is_identity, is_known};
-ghost use Rattle.ss_marking_suite.specs.Rows.{has_block, HasRowsFor};
+ghost use Rattle.ss_txn.specs.Marked.{HasRowsOf};
+ghost use Rattle.ss_marking_suite.specs.Rows.{has_block};
 
 use ss_chain::{Blocks, Fetched};
 use ss_cid::{Bytes, Cid, NoMemory};
@@ -70,8 +71,8 @@ pub(crate) fn store(
     cid: &Cid,
     block: &[u8],
 ) -> Result<(), Fail>
-    requires { HasRowsFor blocks.old.blocks marks.old }
-    ensures { OnOk result (HasRowsFor blocks.new.blocks marks.new) }
+    requires { HasRowsOf (has_block blocks.old.blocks) marks.old }
+    ensures { OnOk result (HasRowsOf (has_block blocks.new.blocks) marks.new) }
 {
     if cid.identity().is_some() || marks.row(cid).is_some() {
         return Ok(());

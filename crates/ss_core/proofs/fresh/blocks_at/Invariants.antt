@@ -1,5 +1,5 @@
 use Rattle.std.proofs.Common.{take}
-use Rattle.ss_core.specs.Puts.{ArePairsAt}
+use Rattle.ss_core.specs.Replies.{ArePairsAt}
 use Rattle.ss_core.proofs.fresh.blocks_at.Given as goal
 
 abbrev pub invariant-loop-place : goal.invariant-loop-place

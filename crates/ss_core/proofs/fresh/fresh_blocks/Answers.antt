@@ -1,5 +1,5 @@
 use Rattle.std.proofs.Common.{sym, ◌∙◌, arith}
-use Rattle.ss_core.specs.Puts.{cids_of}
+use Rattle.ss_core.specs.Replies.{cids_of}
 use Rattle.ss_core.proofs.NewPairs.{all_new, same_pairs, as_many, not_empty}
 use Rattle.ss_core.proofs.fresh.fresh_blocks.Goals as goal
 

@@ -2,7 +2,7 @@ use Rattle.std.proofs.Common.{◌<◌, length}
 use Rattle.std.specs.Prelude.{All}
 use Rattle.ss_store.specs.Places.{CidMap}
 use Rattle.ss_store.specs.declared.place.Place.{Place}
-use Rattle.ss_core.specs.Puts.{AreNoted, cids_of}
+use Rattle.ss_core.specs.Replies.{AreNoted, cids_of}
 use Rattle.ss_core.proofs.NewPairs.{IsWalked}
 use Rattle.ss_core.proofs.fresh.new_places.Given as goal
 

@@ -1,4 +1,4 @@
-use Rattle.ss_marking_suite.specs.Rows.{HasRowsFor}
+use Rattle.ss_marking_suite.proofs.Rows.{HasRowsFor}
 use Rattle.ss_marking_suite.proofs.tests.put_first.Given as goal
 
 abbrev pub invariant-loop-number : goal.invariant-loop-number

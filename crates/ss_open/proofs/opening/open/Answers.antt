@@ -1,16 +1,17 @@
 use Rattle.std.proofs.Common.{inr, Ok, Err, refl, ap, arith}
-use Rattle.ss_open.proofs.Openings.{opened, as_many, not_opened, able}
+use Rattle.ss_open.proofs.Openings.{opened as stands, as_many, not_opened}
 use Rattle.ss_open.proofs.opening.open.Goals as goal
 
 pub returns-in-Ok-clause-told : goal.returns-in-Ok-clause-told
 returns-in-Ok-clause-told g c = λ told.
-    let kept = rw c.in-Ok-Some.field-0-is at (c.in-Ok-Some.ensures.keeps told) in
-    let sure = rw c.in-Ok-Some.field-0-is at c.in-Ok-Some.ensures.sure in
-    opened g.D.Disk c.open.new.disk (g.D.Disk.files c.args.disk 0) c.in-Ok-Some.hot c.in-Ok.core kept.0 kept.1 kept.2 sure c.in-Ok.ensures.parts.1 c.in-Ok.ensures.few (λ s. c.in-Ok.ensures.stands kept.0 s told)
+    let opened = rw c.in-Ok-Some.field-0-is at c.in-Ok-Some.ensures.opened in
+    let kept = opened.keeps told in
+    stands g.D.Disk c.open.new.disk (g.D.Disk.files c.args.disk 0) c.in-Ok-Some.hot c.in-Ok.core kept.0 kept.1 kept.2 opened.settled.sure c.in-Ok.ensures.parts.1 c.in-Ok.ensures.few (λ s. c.in-Ok.ensures.stands kept.0 s told)
 
 pub returns-in-Err-TooMany-default-clause-told : goal.returns-in-Err-TooMany-default-clause-told
 returns-in-Err-TooMany-default-clause-told g c = λ told.
-    let kept = rw c.in-Ok-Some.field-0-is at (c.in-Ok-Some.ensures.keeps told) in
+    let opened = rw c.in-Ok-Some.field-0-is at c.in-Ok-Some.ensures.opened in
+    let kept = opened.keeps told in
     (refl, inr ((c.in-Ok-Some.hot.settings, kept.0, kept.1, omega (arith, c.in-Err-TooMany-default.ensures.many.1, as_many g.D.Disk c.open.new.disk c.in-Ok-Some.hot kept.0 _ kept.2)), refl))
 
 pub returns-in-Ok-None-clause-told : goal.returns-in-Ok-None-clause-told
@@ -18,5 +19,5 @@ returns-in-Ok-None-clause-told g c = λ told. c.in-Ok-None.ensures.none told (ap
 
 pub returns-in-Err-clause-opens : goal.returns-in-Err-clause-opens
 returns-in-Err-clause-opens g c =
-    not_opened g.D.Disk c.args.disk c.open.new.disk c.in-Err.fault c.open_fault.result c.open_fault.ensures (able c.in-Err.fault (λ file need room is. c.in-Err.ensures.not_full file need room (ap Err is)))
-    (λ file at is. (c.in-Err.ensures.damaged file at (ap Err is)).0) c.in-Err.ensures.counts c.open.ensures.goes
+    not_opened g.D.Disk c.args.disk c.open.new.disk c.in-Err.fault c.open_fault.result c.open_fault.ensures (c.in-Err.ensures.reads.errors c.in-Err.fault refl)
+    (λ file at is. (c.in-Err.ensures.damaged file at (ap Err is)).0) c.in-Err.ensures.reads.counts c.open.ensures.reads.goes

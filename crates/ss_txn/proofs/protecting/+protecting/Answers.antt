@@ -2,7 +2,7 @@ use Rattle.std.proofs.Common.{rules, ◌≡◌, ◌∷◌, ◌<◌, [], length, 
 use Rattle.std.proofs.lemmas.List.Elements.{All-rest}
 use Rattle.ss_chain.specs.Follows.{followed}
 use Rattle.ss_chain.proofs.Kept.{identity-none}
-use Rattle.ss_txn.specs.Changes.{Protects}
+use Rattle.ss_txn.specs.Marked.{Protects}
 use Rattle.ss_txn.proofs.Paths.{digest-of-identity, digest-short}
 use Rattle.ss_txn.proofs.Protections.{leaves_next, leaves_none, protects_stored, protects_identity}
 use Rattle.ss_txn.proofs.protecting.+protecting.Goals as goal

@@ -3,7 +3,7 @@ use Rattle.std.specs.Prelude.{IsTrue}
 use Rattle.ss_records.specs.declared.record.Record.{Record}
 use Rattle.ss_model.specs.State.{State}
 use Rattle.ss_model.specs.Head.{unread_refusal}
-use Rattle.ss_core.specs.Reads.{OnlyReads}
+use Rattle.ss_core.specs.Replies.{OnlyReads}
 use Rattle.ss_core.specs.StandsFor.{StandsFor}
 use Rattle.ss_core.proofs.Judging.{IsJudgedTo}
 use Rattle.ss_core.proofs.split_core.SplitCore.judge.Given as goal

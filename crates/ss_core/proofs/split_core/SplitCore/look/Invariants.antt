@@ -6,7 +6,7 @@ use Rattle.ss_hot.specs.Store.{AreNotHot}
 use Rattle.ss_model.specs.State.{State}
 use Rattle.ss_model.specs.Lawful.{body_bytes, put_bytes}
 use Rattle.ss_model.specs.declared.TheConstants.{PUT_BLOCKS}
-use Rattle.ss_core.specs.Puts.{held_put_bytes}
+use Rattle.ss_core.specs.Replies.{held_put_bytes}
 use Rattle.ss_core.specs.StandsFor.{StandsFor}
 use Rattle.ss_core.proofs.split_core.SplitCore.look.Given as goal
 

@@ -1,6 +1,6 @@
 use Rattle.std.proofs.Common.{sym, ap, ◌∙◌, arith}
 use Rattle.std.specs.FinSet as finite_set
-use Rattle.ss_core.proofs.Refusals.{refused_by_fault, due_by_fault}
+use Rattle.ss_core.proofs.Refusals.{refused_by_fault, refused_anywhere}
 use Rattle.ss_core.proofs.split_core.SplitCore.look_or_refuse.Goals as goal
 
 pub returns-then-looked-gt-PUT_BYTES-clause-decides : goal.returns-then-looked-gt-PUT_BYTES-clause-decides
@@ -30,5 +30,5 @@ returns-in-None-clause-decides g c = λ s doubt stands. record {
   sound = c.in-None.ensures;
 }
 
-pub returns-in-Some-clause-due : goal.returns-in-Some-clause-due
-returns-in-Some-clause-due g c = due_by_fault g.D.Disk c.args.self.now c.args.view c.args.parcel.now c.in-Some.refusal c.in-Some.ensures
+pub returns-in-Some-clause-ready : goal.returns-in-Some-clause-ready
+returns-in-Some-clause-ready g c = refused_anywhere g.D.Disk c.args.self.now c.args.view c.args.parcel.now c.in-Some.refusal c.in-Some.ensures

@@ -1,11 +1,18 @@
-use Rattle.std.proofs.Common.{refl, ◌∙◌, arith}
-use Rattle.ss_core.proofs.PutSteps.{new_are, new_fits, new_short, new_absent, own_body, no_memory}
-use Rattle.ss_core.proofs.Refusals.{is_refused}
+use Rattle.std.proofs.Common.{◌≡◌, [], refl, sym, ap, ◌∙◌, subst, Err, arith}
+use Rattle.ss_hot.specs.Store.{Hot}
+use Rattle.ss_model.specs.declared.call.Call.TheVariants as call
+use Rattle.ss_model.specs.declared.call.Answer.TheVariants as answer
+use Rattle.ss_model.specs.declared.call.PutReply.{PutReply}
+use Rattle.ss_model.specs.declared.call.PutReply.TheVariants as put
+use Rattle.ss_core.specs.Replies.{Puts}
+use Rattle.ss_core.specs.Replies.{put_fault}
+use Rattle.ss_core.proofs.Made.{idle_makes, put_stored, put_failed, counted_kept}
+use Rattle.ss_core.proofs.PutSteps.{new_are, new_fits, new_short, new_absent, own_body, no_memory, not_settled, none_stored, none_few}
+use Rattle.ss_core.proofs.Refusals.{refused_puts}
 use Rattle.ss_core.proofs.split_core.SplitCore.put.Goals as goal
 
-pub returns-in-Err-clause-told : goal.returns-in-Err-clause-told
-returns-in-Err-clause-told g c = λ told s doubt stands.
-    is_refused g.D.Disk c.args.self.now s doubt c.args.view c.args.parcel.now stands c.in-Err.refusal (c.in-Err.ensures.decides s doubt stands)
+pub returns-in-Err : goal.returns-in-Err
+returns-in-Err g c = refused_puts g.D.Disk c.args.self.now c.args.view c.args.parcel.now c.in-Err.refusal c.in-Err.ensures.decides c.in-Err.ensures.ready
 
 pub put_fresh-requires-clause-blocks : goal.put_fresh-requires-clause-blocks
 put_fresh-requires-clause-blocks g c = let e = rw c.in-Ok-All.field-0-is at (c.in-Ok-All.ensures c.args.self.now.hot.places c.in-Ok.ensures.looked.noted) in new_fits c.args.self.now.hot.places c.args.parcel.now c.args.parcel.now c.in-Ok.ensures.ready e.0 e.1
@@ -28,36 +35,46 @@ put_fresh-requires-in-Ok-Part-clause-short g c = new_short c.args.self.now.hot.p
 pub put_fresh-requires-in-Ok-Part-clause-new : goal.put_fresh-requires-in-Ok-Part-clause-new
 put_fresh-requires-in-Ok-Part-clause-new g c = new_absent c.args.self.now.hot c.args.parcel.now c.in-Ok-Part.fresh (rw c.in-Ok-Part.field-0-is at (c.in-Ok-Part.ensures c.args.self.now.hot.places c.in-Ok.ensures.looked.noted)).0
 
-pub returns-in-Ok-Nothing-clause-told : goal.returns-in-Ok-Nothing-clause-told
-returns-in-Ok-Nothing-clause-told g c = λ told s doubt stands.
-    c.put_nothing.ensures.told told s doubt c.args.view c.args.parcel.now stands (c.in-Ok.ensures.decides s doubt stands) (new_are g.D.Disk c.args.self.now s doubt stands c.args.parcel.now ∙ (rw c.in-Ok-Nothing.field-0-is at (c.in-Ok-Nothing.ensures c.args.self.now.hot.places c.in-Ok.ensures.looked.noted)))
+pub returns-in-Ok-settle : goal.returns-in-Ok-settle
+returns-in-Ok-settle g c =
+    let none = rw c.in-Ok-Nothing.field-0-is at (c.in-Ok-Nothing.ensures c.args.self.now.hot.places c.in-Ok.ensures.looked.noted) in
+    record {
+      told = λ told s doubt stands.
+          let settled = c.in-Ok-settle.ensures.told told s doubt stands in
+          none_stored g.D.Disk s doubt c.args.view c.args.parcel.now [] (c.in-Ok.ensures.decides s doubt stands) (new_are g.D.Disk c.args.self.now s doubt stands c.args.parcel.now ∙ none) c.args.self.now c.settle.new.self stands c.settle.ensures.same settled.stops refl settled.after;
+      made = put_stored g.D.Disk c.args.self.now c.settle.new.self (ap (λ (h : Hot). h.settings) c.settle.ensures.same) (ap (λ (h : Hot). h.log.file) c.settle.ensures.same) c.settle.ensures.touches c.args.view 0 c.args.parcel.now
+          (counted_kept _ _ _ c.in-Ok-settle.ensures.counts.kept) c.in-Ok-settle.ensures.settled;
+      due = tt;
+      views = c.settle.ensures.views;
+    }
 
-pub returns-in-Ok-Nothing-clause-made : goal.returns-in-Ok-Nothing-clause-made
-returns-in-Ok-Nothing-clause-made g c = c.put_nothing.ensures.made c.args.view c.args.parcel.now
+pub returns-in-Err-settle : goal.returns-in-Err-settle
+returns-in-Err-settle g c =
+    let none = rw c.in-Ok-Nothing.field-0-is at (c.in-Ok-Nothing.ensures c.args.self.now.hot.places c.in-Ok.ensures.looked.noted) in
+    let fault : c.in-Err-settle.fault ≡ _ = c.in-Err-settle.ensures.errors c.in-Err-settle.fault refl in
+    let reply : c.put_fault.result ≡ put.DiskFault = c.put_fault.ensures ∙ ap put_fault fault in
+    subst (λ (r : PutReply). Puts c.args.self.now c.settle.new.self c.args.view c.args.parcel.now r) (sym reply) (record {
+      told = λ told s doubt stands.
+          let settled = c.in-Err-settle.ensures.told told s doubt stands in
+          not_settled g.D.Disk s doubt c.args.view c.args.parcel.now [] (c.in-Ok.ensures.decides s doubt stands) (new_are g.D.Disk c.args.self.now s doubt stands c.args.parcel.now ∙ none) c.args.self.now c.settle.new.self stands c.settle.ensures.same settled.stops
+          (none_few g.D.Disk s doubt c.args.self.now stands) (omega arith) settled.after;
+      made = put_failed g.D.Disk c.args.self.now c.settle.new.self (ap (λ (h : Hot). h.settings) c.settle.ensures.same) (ap (λ (h : Hot). h.log.file) c.settle.ensures.same) c.settle.ensures.touches c.args.view c.args.parcel.now (c.in-Err-settle.ensures.counts.rose (ap Err fault));
+      due = tt;
+      views = c.settle.ensures.views;
+    })
 
-pub returns-in-Ok-All-clause-told : goal.returns-in-Ok-All-clause-told
-returns-in-Ok-All-clause-told g c = λ told s doubt stands.
-    c.put_fresh.ensures.told told s doubt c.args.view c.args.parcel.now stands (c.in-Ok.ensures.decides s doubt stands) (new_are g.D.Disk c.args.self.now s doubt stands c.args.parcel.now ∙ (rw c.in-Ok-All.field-0-is at (c.in-Ok-All.ensures c.args.self.now.hot.places c.in-Ok.ensures.looked.noted)).0)
+pub returns-in-Ok-All : goal.returns-in-Ok-All
+returns-in-Ok-All g c = c.put_fresh.ensures c.args.view c.args.parcel.now (λ s doubt stands.
+    (c.in-Ok.ensures.decides s doubt stands, new_are g.D.Disk c.args.self.now s doubt stands c.args.parcel.now ∙ (rw c.in-Ok-All.field-0-is at (c.in-Ok-All.ensures c.args.self.now.hot.places c.in-Ok.ensures.looked.noted)).0))
 
-pub returns-in-Ok-All-clause-made : goal.returns-in-Ok-All-clause-made
-returns-in-Ok-All-clause-made g c = c.put_fresh.ensures.made c.args.view c.args.parcel.now
+pub returns-in-Ok-Part : goal.returns-in-Ok-Part
+returns-in-Ok-Part g c = c.put_fresh-in-Ok-Part.ensures c.args.view c.args.parcel.now (λ s doubt stands.
+    (c.in-Ok.ensures.decides s doubt stands, new_are g.D.Disk c.args.self.now s doubt stands c.args.parcel.now ∙ (rw c.in-Ok-Part.field-0-is at (c.in-Ok-Part.ensures c.args.self.now.hot.places c.in-Ok.ensures.looked.noted)).0))
 
-pub returns-in-Ok-Part-clause-told : goal.returns-in-Ok-Part-clause-told
-returns-in-Ok-Part-clause-told g c = λ told s doubt stands.
-    c.put_fresh-in-Ok-Part.ensures.told told s doubt c.args.view c.args.parcel.now stands (c.in-Ok.ensures.decides s doubt stands) (new_are g.D.Disk c.args.self.now s doubt stands c.args.parcel.now ∙ (rw c.in-Ok-Part.field-0-is at (c.in-Ok-Part.ensures c.args.self.now.hot.places c.in-Ok.ensures.looked.noted)).0)
-
-pub returns-in-Ok-Part-clause-made : goal.returns-in-Ok-Part-clause-made
-returns-in-Ok-Part-clause-made g c = c.put_fresh-in-Ok-Part.ensures.made c.args.view c.args.parcel.now
-
-pub returns-in-Err-fresh_blocks-clause-told : goal.returns-in-Err-fresh_blocks-clause-told
-returns-in-Err-fresh_blocks-clause-told g c = λ told s doubt stands.
-    no_memory g.D.Disk s doubt c.args.view c.args.parcel.now _ (c.in-Ok.ensures.decides s doubt stands) refl c.args.self.now stands
-
-pub returns-in-Ok-Nothing-clause-due : goal.returns-in-Ok-Nothing-clause-due
-returns-in-Ok-Nothing-clause-due g c = c.put_nothing.ensures.due c.args.view c.args.parcel.now
-
-pub returns-in-Ok-All-clause-due : goal.returns-in-Ok-All-clause-due
-returns-in-Ok-All-clause-due g c = c.put_fresh.ensures.due c.args.view c.args.parcel.now
-
-pub returns-in-Ok-Part-clause-due : goal.returns-in-Ok-Part-clause-due
-returns-in-Ok-Part-clause-due g c = c.put_fresh-in-Ok-Part.ensures.due c.args.view c.args.parcel.now
+pub returns-in-Err-fresh_blocks : goal.returns-in-Err-fresh_blocks
+returns-in-Err-fresh_blocks g c = record {
+  told = λ _ s doubt stands. no_memory g.D.Disk s doubt c.args.view c.args.parcel.now _ (c.in-Ok.ensures.decides s doubt stands) refl c.args.self.now stands;
+  made = idle_makes g.D.Disk c.args.self.now (call.Put c.args.view c.args.parcel.now) (answer.Put put.NoMemory) refl tt refl (λ _. refl);
+  due = tt;
+  views = refl;
+}

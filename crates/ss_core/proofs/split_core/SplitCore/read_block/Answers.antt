@@ -29,35 +29,35 @@ returns-in-Ok-clause-told g c = λ told s doubt view cid stands opened at.
     let placed : finite_map.get c.settle.new.self.hot.places cid ≡ Some c.args.place = ap (λ (h : Hot). finite_map.get h.places cid) c.settle.ensures.same ∙ at.1 in
     let filled : c.from.result ≡ c.read.new.block = refilled c.args.block.items c.read.new.block c.from.result c.args.block.len (c.read.ensures.len ∙ c.as_mut_slice.ensures.len) c.from.ensures in
     is_found g.D.Disk s doubt view cid (sym at.0) c.args.self.now _ c.settle.ensures.same
-    (leaves_read g.D.Disk told c.args.self.now.hot.log.file (HasEitherState s doubt) c.args.self.now.disk c.settle.new.self.disk c.read.new.disk settled.stops c.read.ensures.goes) opened c.from.result
+    (leaves_read g.D.Disk told c.args.self.now.hot.log.file (HasEitherState s doubt) c.args.self.now.disk c.settle.new.self.disk c.read.new.disk settled.stops c.read.ensures.reads.goes) opened c.from.result
     (ap (λ kept. finite_map.get kept cid) settled.after.state.kept ∙ c.in-Ok.ensures.block cid settled.after.records settled.after.records told settled.after.keeps placed ∙ ap Some (sym filled))
-    (stands_read g.D.Disk told c.settle.new.self _ s None c.read.ensures.goes refl refl settled.after)
+    (stands_read g.D.Disk told c.settle.new.self _ s None c.read.ensures.reads.goes refl refl settled.after)
 
 pub returns-in-Ok-clause-made : goal.returns-in-Ok-clause-made
 returns-in-Ok-clause-made g c = λ view cid at.
     get_found g.D.Disk c.args.self.now _ (ap (λ (h : Hot). h.settings) c.settle.ensures.same) (ap (λ (h : Hot). h.log.file) c.settle.ensures.same)
-    (then_same g.D.Disk c.args.self.now.disk c.settle.new.self.disk c.read.new.disk (Changes c.args.self.now.hot.log.file (λ _ _. Unit {0})) c.settle.ensures.touches c.read.ensures.goes) view cid (sym at.0) c.from.result
-    (counted_kept _ _ _ c.in-Ok.ensures.counts.kept ∙ counted_kept _ _ _ c.in_default.ensures.counts.kept) c.in_default.ensures.settled
+    (then_same g.D.Disk c.args.self.now.disk c.settle.new.self.disk c.read.new.disk (Changes c.args.self.now.hot.log.file (λ _ _. Unit {0})) c.settle.ensures.touches c.read.ensures.reads.goes) view cid (sym at.0) c.from.result
+    (counted_kept _ _ _ c.in-Ok.ensures.reads.counts.kept ∙ counted_kept _ _ _ c.in_default.ensures.counts.kept) c.in_default.ensures.settled
 
 pub returns-in-Err-read-clause-told : goal.returns-in-Err-read-clause-told
 returns-in-Err-read-clause-told g c = λ told s doubt view cid stands opened at.
     let settled = c.in_default.ensures.told told s doubt stands in
     let there : is_some (finite_map.get s.kept cid) ≡ true = sym (held_is g.D.Disk c.args.self.now s doubt stands cid) ∙ ap is_some at.1 in
     is_not_read g.D.Disk s doubt view cid (sym at.0) c.args.self.now _ c.settle.ensures.same
-    (leaves_read g.D.Disk told c.args.self.now.hot.log.file (HasEitherState s doubt) c.args.self.now.disk c.settle.new.self.disk c.read.new.disk settled.stops c.read.ensures.goes) opened there
-    (stands_read g.D.Disk told c.settle.new.self _ s None c.read.ensures.goes refl refl settled.after)
+    (leaves_read g.D.Disk told c.args.self.now.hot.log.file (HasEitherState s doubt) c.args.self.now.disk c.settle.new.self.disk c.read.new.disk settled.stops c.read.ensures.reads.goes) opened there
+    (stands_read g.D.Disk told c.settle.new.self _ s None c.read.ensures.reads.goes refl refl settled.after)
 
 pub returns-in-Err-read-clause-made : goal.returns-in-Err-read-clause-made
 returns-in-Err-read-clause-made g c = λ view cid at.
     get_failed g.D.Disk c.args.self.now _ (ap (λ (h : Hot). h.settings) c.settle.ensures.same) (ap (λ (h : Hot). h.log.file) c.settle.ensures.same)
-    (then_same g.D.Disk c.args.self.now.disk c.settle.new.self.disk c.read.new.disk (Changes c.args.self.now.hot.log.file (λ _ _. Unit {0})) c.settle.ensures.touches c.read.ensures.goes) view cid (sym at.0)
-    (rose_on (g.D.Disk.faults c.args.self.now.disk) (g.D.Disk.faults c.settle.new.self.disk) _ (counted_kept _ _ _ c.in_default.ensures.counts.kept) (c.in-Err-read.ensures.counts.rose (ap Err (c.in-Err-read.ensures.errors c.in-Err-read.field-0 refl))))
+    (then_same g.D.Disk c.args.self.now.disk c.settle.new.self.disk c.read.new.disk (Changes c.args.self.now.hot.log.file (λ _ _. Unit {0})) c.settle.ensures.touches c.read.ensures.reads.goes) view cid (sym at.0)
+    (rose_on (g.D.Disk.faults c.args.self.now.disk) (g.D.Disk.faults c.settle.new.self.disk) _ (counted_kept _ _ _ c.in_default.ensures.counts.kept) (c.in-Err-read.ensures.reads.counts.rose (ap Err (c.in-Err-read.ensures.reads.errors c.in-Err-read.field-0 refl))))
 
 pub returns-in-Err-clause-reads : goal.returns-in-Err-clause-reads
 returns-in-Err-clause-reads g c = λ sure. same_disk g.D.Disk _ _ (c.settle.ensures.sure sure).2
 
 pub returns-in-Ok-clause-reads : goal.returns-in-Ok-clause-reads
-returns-in-Ok-clause-reads g c = λ sure. subst (λ d. Goes g.D.Disk Same d c.read.new.disk) (c.settle.ensures.sure sure).2 c.read.ensures.goes
+returns-in-Ok-clause-reads g c = λ sure. subst (λ d. Goes g.D.Disk Same d c.read.new.disk) (c.settle.ensures.sure sure).2 c.read.ensures.reads.goes
 
 pub returns-in-Err-read-clause-reads : goal.returns-in-Err-read-clause-reads
-returns-in-Err-read-clause-reads g c = λ sure. subst (λ d. Goes g.D.Disk Same d c.read.new.disk) (c.settle.ensures.sure sure).2 c.read.ensures.goes
+returns-in-Err-read-clause-reads g c = λ sure. subst (λ d. Goes g.D.Disk Same d c.read.new.disk) (c.settle.ensures.sure sure).2 c.read.ensures.reads.goes

@@ -10,7 +10,7 @@ use Rattle.ss_model.specs.declared.call.Answer.TheVariants as answer
 use Rattle.ss_model.specs.declared.call.HeadReply.{HeadReply}
 use Rattle.ss_model.specs.declared.call.HeadReply.TheVariants as head
 use Rattle.ss_core.specs.Calls.{Steps, Makes}
-use Rattle.ss_core.specs.Reads.{head_fault}
+use Rattle.ss_core.specs.Replies.{head_fault}
 use Rattle.ss_core.specs.StandsFor.{HasEitherState}
 use Rattle.ss_core.proofs.HeadSteps.{refused, refused_makes, not_settled, failed_makes, then_steps, then_makes, stands_after, judged_steps, judged_makes, judged_reaches}
 use Rattle.ss_core.proofs.Made.{counted_kept}

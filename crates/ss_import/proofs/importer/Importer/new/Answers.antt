@@ -1,4 +1,4 @@
-use Rattle.std.proofs.Common.{inl, [], length, All, ◌||◌, true, false, true≢false, refl, sym, ap, ◌∙◌, subst, arith}
+use Rattle.std.proofs.Common.{inl, [], length, All, ◌||◌, true≢false, refl, sym, ap, ◌∙◌, subst, arith}
 use Rattle.std.specs.Prelude.{sum_by}
 use Rattle.std.specs.Cmp.{Equal-is, tied_itself, nat_cmp_total}
 use Rattle.std.specs.Ordering.{nat_cmp}
@@ -8,7 +8,7 @@ use Rattle.ss_model.specs.declared.call.Call.TheVariants as call
 use Rattle.ss_model.specs.declared.call.Answer.TheVariants as answer
 use Rattle.ss_model.specs.declared.call.ViewReply.{ViewReply}
 use Rattle.ss_model.specs.Lawful.{IsSmall}
-use Rattle.ss_core.specs.Puts.{held_put_bytes}
+use Rattle.ss_core.specs.Replies.{held_put_bytes}
 use Rattle.ss_history.proofs.Stories.{story_more}
 use Rattle.ss_import.specs.Import.{entry, pair_length}
 use Rattle.ss_import.proofs.importer.Importer.new.Goals as goal
@@ -22,12 +22,12 @@ pub returns-clause-ready : goal.returns-clause-ready
 returns-clause-ready g c =
     let opens = rw c.in-Opened.is at c.open_view.ensures.views in record {
       view = ap (λ views. finite_set.contains views c.in-Opened.view) opens.2 ∙ contains-insert nat_cmp_total c.args.core.views c.in-Opened.view c.in-Opened.view ∙ ap (λ b. b || finite_set.contains c.args.core.views c.in-Opened.view) ((Equal-is (nat_cmp c.in-Opened.view c.in-Opened.view)).1 (tied_itself nat_cmp_total c.in-Opened.view));
-      offsets = ap length c.new.ensures.offsets ∙ sym (ap length c.new.ensures.parcel);
-      together = inl (omega (arith, ap length c.new.ensures.parcel));
-      bytes = c.new.ensures.bytes.0 ∙ sym (ap (sum_by pair_length) c.new.ensures.parcel);
-      small = subst (All IsSmall) (sym c.new.ensures.parcel) (λ k d less. absurd (let no : ⊥ = omega (arith, less) in no));
-      put_bytes = c.new.ensures.bytes.1 ∙ sym (ap (held_put_bytes c.open_view.new.self.hot.places) c.new.ensures.parcel);
-      fits = inl (omega (arith, ap length c.new.ensures.parcel));
+      offsets = ap length c.new.ensures.holds.offsets ∙ sym (ap length c.new.ensures.holds.parcel);
+      together = inl (omega (arith, ap length c.new.ensures.holds.parcel));
+      bytes = c.new.ensures.bytes.0 ∙ sym (ap (sum_by pair_length) c.new.ensures.holds.parcel);
+      small = subst (All IsSmall) (sym c.new.ensures.holds.parcel) (λ k d less. absurd (let no : ⊥ = omega (arith, less) in no));
+      put_bytes = c.new.ensures.bytes.1 ∙ sym (ap (held_put_bytes c.open_view.new.self.hot.places) c.new.ensures.holds.parcel);
+      fits = inl (omega (arith, ap length c.new.ensures.holds.parcel));
     }
 
 pub returns-clause-putting : goal.returns-clause-putting

@@ -1,8 +1,8 @@
-use Rattle.std.proofs.Common.{◌⊎◌, true≢false, ℕ, ◌+◌, ◌-◌, ◌^◌, ◌≤◌, min, List, [], map, length, All, Ok, Err, refl, sym, ap, ◌∙◌, subst}
+use Rattle.std.proofs.Common.{◌⊎◌, true≢false, ℕ, ◌+◌, ◌-◌, ◌^◌, ◌≤◌, min, List, [], map, length, All, Err, refl, sym, ap, ◌∙◌, subst}
 use Rattle.std.proofs.lemmas.List.{append-nil}
 use Rattle.ss_model.specs.Lawful.{IsSmall}
 use Rattle.ss_model.specs.declared.TheConstants.{PUT_BYTES}
-use Rattle.ss_core.specs.Puts.{IsDueTo, held_put_bytes}
+use Rattle.ss_core.specs.Replies.{IsDueTo, held_put_bytes}
 use Rattle.ss_import.specs.Import.{pair_of, GoTogether}
 use Rattle.ss_import.specs.Steps.{Putting, IsDueBlock}
 use Rattle.ss_import.proofs.Fronts.{some_of, pair_at, section_at}
@@ -47,5 +47,5 @@ returns-in-Err-Ends-clause-puts g c = λ was sections left p holds.
     ended was (record c.args.self.now { core = c.put.new.self }) sections left p.puts p.are_puts left [] c.put.result c.in-Err-Ends.fault (ending_reply c.put.result c.in-Err-Ends.fault (sym c.stored.ensures ∙ c.in-Err-Ends.is ∙ ap Err c.in-Err-Ends.field-0-is))
     (sym (append-nil left)) (subst GoTogether holds.parcel c.requires.together) story
 
-pub returns-in-Err-Ends-clause-faults : goal.returns-in-Err-Ends-clause-faults
-returns-in-Err-Ends-clause-faults g c = λ before. end_counts before c.put.result c.in-Err-Ends.fault (ending_reply c.put.result c.in-Err-Ends.fault (sym c.stored.ensures ∙ c.in-Err-Ends.is ∙ ap Err c.in-Err-Ends.field-0-is))
+pub returns-in-Err-Ends-clause-continues : goal.returns-in-Err-Ends-clause-continues
+returns-in-Err-Ends-clause-continues g c = λ before. end_counts before c.put.result c.in-Err-Ends.fault (ending_reply c.put.result c.in-Err-Ends.fault (sym c.stored.ensures ∙ c.in-Err-Ends.is ∙ ap Err c.in-Err-Ends.field-0-is))

@@ -1,13 +1,13 @@
-use Rattle.std.proofs.Common.{◌≡◌, List, ◌∷◌, ◌++◌, map, take, All, Ok, Err, refl, sym, ap, ◌∙◌, subst}
+use Rattle.std.proofs.Common.{◌≡◌, List, ◌∷◌, ◌++◌, take, Err, refl, sym, ap, ◌∙◌, subst}
 use Rattle.std.specs.Prelude.{slice_index_or}
 use Rattle.std.proofs.lemmas.List.{take-map}
 use Rattle.std.proofs.lemmas.List.Elements.{All-take}
 use Rattle.ss_model.specs.Lawful.{IsSmall}
 use Rattle.ss_car.specs.Car.{Section}
-use Rattle.ss_core.specs.Puts.{IsDueTo}
+use Rattle.ss_core.specs.Replies.{IsDueTo}
 use Rattle.ss_import.specs.declared.fault.ImportFault.TheVariants as import
-use Rattle.ss_import.specs.Import.{pair_of, GoTogether}
-use Rattle.ss_import.specs.Steps.{PutsEnded, FaultCounts}
+use Rattle.ss_import.specs.Import.{pair_of, GoTogether, FaultCounts}
+use Rattle.ss_import.specs.Steps.{PutsEnded}
 use Rattle.ss_import.proofs.Fronts.{together_front, fits_front, front_of, offset_at, still_blamed, none_before}
 use Rattle.ss_import.proofs.Putting.{story_put, stored, ended, blocked}
 use Rattle.ss_import.proofs.Replies.{group_reply, stored_reply, refused_block, ending_reply, end_counts}

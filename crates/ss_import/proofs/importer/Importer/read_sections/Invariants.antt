@@ -1,13 +1,11 @@
-use Rattle.std.proofs.Common.{◌≡◌, ℕ, ◌-◌, ◌≤◌, ◌^◌, List, Option, None}
-use Rattle.ss_car.specs.Bodies.{taken_of, refusal_of, input_faults, input_place}
-use Rattle.ss_import.specs.Steps.{IsReady, Reading}
+use Rattle.std.proofs.Common.{◌≡◌, ℕ, ◌-◌, ◌^◌, List, Option}
+use Rattle.ss_car.specs.Bodies.{taken_of, input_faults, input_place}
+use Rattle.ss_import.specs.Steps.{IsBetween, Reading}
 use Rattle.ss_import.proofs.importer.Importer.read_sections.Given as goal
 
 abbrev pub invariant-loop : goal.invariant-loop
 invariant-loop g l = record {
-  ready : IsReady l.self;
-  fresh : refusal_of l.reader ≡ None;
-  short : (l.self.sections ≤ taken_of l.reader) × (taken_of l.reader ≤ 2 ^ 40);
+  between : IsBetween l.self l.reader;
   reading : (input : Option (List ℕ)) (was : g.row.D.Denot) → Reading g.S.Source input was l.fn.self l.fn.reader → Reading g.S.Source input was l.self l.reader;
   faults : input_faults g.S.Source l.reader ≡ input_faults g.S.Source l.fn.reader;
   place : input_place g.S.Source l.reader ≡ input_place g.S.Source l.fn.reader;

@@ -1,8 +1,8 @@
-use Rattle.std.proofs.Common.{◌≡◌, List, [], ◌∷◌, ◌++◌, map, refl, sym, ap, ◌∙◌, subst, arith}
+use Rattle.std.proofs.Common.{◌≡◌, List, [], ◌∷◌, ◌++◌, refl, sym, ap, ◌∙◌, subst, arith}
 use Rattle.std.proofs.lemmas.Result.{err_from_is_err_and}
 use Rattle.std.proofs.lemmas.List.{map-append}
 use Rattle.ss_car.specs.Car.{Section}
-use Rattle.ss_core.specs.Puts.{held_put_bytes}
+use Rattle.ss_core.specs.Replies.{held_put_bytes}
 use Rattle.ss_import.specs.Import.{pair_of}
 use Rattle.ss_import.specs.Steps.{Putting, Holds}
 use Rattle.ss_import.proofs.Putting.{takes_ended, wanting, one_more, regrouped}
@@ -22,10 +22,10 @@ returns-in_err-put-2-clause-takes g c = λ was sections left p holds.
 pub add-requires-clause-put_bytes : goal.add-requires-clause-put_bytes
 add-requires-clause-put_bytes g c = elim c.if-not-takes.branch [
   | then-not-takes+in_ok-put-2 w ↦
-      let ready = w.in_ok-put-2.ensures.ready in
+      let ready = w.in_ok-put-2.ensures.continues in
       let three : w.put-then-not-takes.new.self.group.put_bytes ≡ 3 = ready.put_bytes ∙ ap (held_put_bytes w.put-then-not-takes.new.self.core.hot.places) w.in_ok-put-2.ensures.empty.parcel in
       omega (arith, three, ap (λ i. i.group.put_bytes) w.self-is, c.put_bytes-put_bytes.ensures.few, c.requires.small)
-  | else-not-takes w ↦ omega (arith, ap (λ i. i.group.put_bytes) w.self-is, c.put_bytes-put_bytes.ensures.few, c.requires.small, c.takes.ensures)
+  | else-not-takes w ↦ omega (arith, ap (λ i. i.group.put_bytes) w.self-is, c.put_bytes-put_bytes.ensures.few, c.requires.small, c.takes.ensures.0)
 ]
 
 pub returns-in_err-add-clause-takes : goal.returns-in_err-add-clause-takes

@@ -1,7 +1,7 @@
 use Rattle.std.proofs.Common.{◌≡◌, List, ℕ, sym, ap, subst, ◌∙◌}
 use Rattle.ss_marks.specs.declared.colour.Colour.TheVariants.{Out}
 use Rattle.ss_marks.specs.Marks.{mark_of}
-use Rattle.ss_txn.specs.Changes.{Blackens}
+use Rattle.ss_txn.specs.Marked.{Blackens}
 use Rattle.ss_txn.proofs.Marking.{row_in, blackens_marked, blackens_rows}
 use Rattle.ss_txn.proofs.Blackening.{out_after, blackens_out, out_is_shaded}
 use Rattle.ss_txn.proofs.transaction.Txn.accept.Goals as goal

@@ -3,7 +3,7 @@ use Rattle.std.specs.Prelude.{option_map}
 use Rattle.ss_chain.specs.Reach.{Reach}
 use Rattle.ss_marks.specs.Marks.{MarkTable, mark_of, whitened}
 use Rattle.ss_txn.specs.Marked.{none_kept}
-use Rattle.ss_txn.specs.Changes.{MayShade, Protects, Begins}
+use Rattle.ss_txn.specs.Marked.{MayShade, Protects, Begins}
 use Rattle.ss_txn.proofs.Shading.{same_then}
 use Rattle.ss_txn.proofs.Marking.{begins_marked, begins_rows}
 use Rattle.ss_txn.proofs.transaction.Txn.begin.Goals as goal

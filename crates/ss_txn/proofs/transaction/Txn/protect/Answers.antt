@@ -1,5 +1,5 @@
 use Rattle.std.proofs.Common.{◌∷◌, [], subst}
-use Rattle.ss_txn.specs.Changes.{Protects}
+use Rattle.ss_txn.specs.Marked.{Protects}
 use Rattle.ss_txn.proofs.Marking.{protects_marked, protects_rows}
 use Rattle.ss_txn.proofs.transaction.Txn.protect.Goals as goal
 

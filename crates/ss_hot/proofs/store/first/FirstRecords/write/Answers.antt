@@ -1,9 +1,8 @@
-use Rattle.std.proofs.Common.{◌≡◌, ◌+◌, ◌∷◌, [], ℕ, length, ap, refl, ◌∙◌, sym, subst, arith}
+use Rattle.std.proofs.Common.{◌≡◌, ◌+◌, ◌∷◌, [], ℕ, false, length, ap, refl, ◌∙◌, sym, arith}
 use Rattle.std.proofs.lemmas.Result.{err_from_is_err_and}
 use Rattle.std.specs.Prelude.{Result, Err}
 use Rattle.ss_disk.proofs.Goes.{touches}
 use Rattle.ss_gatelog.specs.GateLog.{Log}
-use Rattle.ss_records.specs.declared.record.Config.{Config as Settings}
 use Rattle.ss_records.specs.declared.record.Record.TheVariants as record_kind
 use Rattle.ss_records.specs.Record.{spelling}
 use Rattle.ss_store.specs.declared.fault.StoreFault.{StoreFault}
@@ -11,10 +10,6 @@ use Rattle.ss_store.specs.declared.fault.StoreFault.TheVariants as fault
 use Rattle.ss_hot.proofs.Grown.{length-frame}
 use Rattle.ss_hot.proofs.Sizes.{length-Generation, length-Config}
 use Rattle.ss_hot.proofs.Writes.{keeps_new, within_empty, touches_log}
-use Rattle.ss_gatelog.specs.Log.{Spells}
-use Rattle.ss_store.specs.Append.{bodies}
-use Rattle.ss_hot.proofs.Fresh.{new_half}
-use Rattle.ss_hot.specs.File.{IsHalf}
 use Rattle.ss_hot.proofs.store.first.FirstRecords.write.Goals as goal
 
 -- a refusal of an append that is not for want of room, for damage or out of memory
@@ -65,20 +60,22 @@ pub invariant_of-result : goal.invariant_of-result
 invariant_of-result g c = rw c.new.ensures (within_empty c.self.inside.config c.append_record-2.new.log
     (ap (λ (l : Log). l.limit) c.in_ok-append_record-2.ensures.appended.ok ∙ ap (λ (l : Log). l.limit) c.in_ok-append_record.ensures.appended.ok ∙ ap (λ (l : Log). l.limit) c.in-Ok.ensures.ok))
 
-pub returns-clause-keeps : goal.returns-clause-keeps
-returns-clause-keeps g c told = rw (sym c.self.view_is) (rw c.new.ensures (keeps_new g.D.Disk _ c.self.inside.config c.append_record-2.new.log c.self.invariant.0
-    (ap (λ (l : Log). l.limit) c.in_ok-append_record-2.ensures.appended.ok ∙ ap (λ (l : Log). l.limit) c.in_ok-append_record.ensures.appended.ok ∙ ap (λ (l : Log). l.limit) c.in-Ok.ensures.ok)
-    (ap (λ (l : Log). l.unsure) c.in_ok-append_record-2.ensures.appended.ok ∙ ap (λ (l : Log). l.unsure) c.in_ok-append_record.ensures.appended.ok ∙ ap (λ (l : Log). l.unsure) c.in-Ok.ensures.ok)
-    (c.in_ok-append_record-2.ensures.told (record_kind.Config c.self.inside.config) (record_kind.Generation 1 ∷ []) (c.deref_mut-2.ensures.value ∙ c.self.invariant.2) told
-    (c.in_ok-append_record.ensures.told (record_kind.Generation 1) [] (c.deref_mut.ensures.value ∙ c.self.invariant.1) told (c.in-Ok.ensures.sure told)).appended).appended))
+pub returns-clause-new : goal.returns-clause-new
+returns-clause-new g c =
+    let one = c.in-Ok.ensures.ok in
+    let two = c.in_ok-append_record.ensures.appended.ok in
+    let three = c.in_ok-append_record-2.ensures.appended.ok in
+    let limit : c.append_record-2.new.log.limit ≡ c.self.inside.config.limit = ap (λ (l : Log). l.limit) three ∙ ap (λ (l : Log). l.limit) two ∙ ap (λ (l : Log). l.limit) one in
+    let unsure : c.append_record-2.new.log.unsure ≡ false = ap (λ (l : Log). l.unsure) three ∙ ap (λ (l : Log). l.unsure) two ∙ ap (λ (l : Log). l.unsure) one in
+    record {
+      keeps = λ told. rw (sym c.self.view_is) (rw c.new.ensures (keeps_new g.D.Disk _ c.self.inside.config c.append_record-2.new.log c.self.invariant.0 limit unsure
+          (c.in_ok-append_record-2.ensures.told (record_kind.Config c.self.inside.config) (record_kind.Generation 1 ∷ []) (c.deref_mut-2.ensures.value ∙ c.self.invariant.2) told
+          (c.in_ok-append_record.ensures.told (record_kind.Generation 1) [] (c.deref_mut.ensures.value ∙ c.self.invariant.1) told (c.in-Ok.ensures.sure told)).appended).appended));
+      settings = c.self.view_is;
+      places = c.new.ensures;
+      settled = record { sure = unsure; log = (ap (λ (l : Log). l.file) three ∙ ap (λ (l : Log). l.file) two ∙ ap (λ (l : Log). l.file) one, limit); known = c.in_ok-append_record-2.ensures.appended.known };
+    }
 
 pub returns-clause-touches : goal.returns-clause-touches
 returns-clause-touches g c = touches_log g.D.Disk 0 _ _ _ c.append_record.new.log (ap (λ (l : Log). l.file) c.in_ok-append_record.ensures.appended.ok ∙ ap (λ (l : Log). l.file) c.in-Ok.ensures.ok)
     (touches_log g.D.Disk 0 _ _ _ c.in-Ok.log (ap (λ (l : Log). l.file) c.in-Ok.ensures.ok) (touches g.D.Disk 0 _ _ _ c.create.ensures.goes) c.append_record.ensures.appended.touches) c.append_record-2.ensures.appended.touches
-
-pub returns-clause-stands : goal.returns-clause-stands
-returns-clause-stands g c told left image =
-    let sure = (c.in_ok-append_record-2.ensures.told (record_kind.Config c.self.inside.config) (record_kind.Generation 1 ∷ []) (c.deref_mut-2.ensures.value ∙ c.self.invariant.2) told
-    (c.in_ok-append_record.ensures.told (record_kind.Generation 1) [] (c.deref_mut.ensures.value ∙ c.self.invariant.1) told (c.in-Ok.ensures.sure told)).appended).appended in
-    let file : c.append_record-2.new.log.file ≡ 0 = ap (λ (l : Log). l.file) c.in_ok-append_record-2.ensures.appended.ok ∙ ap (λ (l : Log). l.file) c.in_ok-append_record.ensures.appended.ok ∙ ap (λ (l : Log). l.file) c.in-Ok.ensures.ok in
-    subst (λ (settings : Settings). IsHalf (left 0) settings (record_kind.Generation 1 ∷ record_kind.Config settings ∷ [])) c.self.view_is (new_half (left 0) c.self.inside.config c.self.invariant.0 (subst (λ (f : ℕ). Spells (bodies (record_kind.Generation 1 ∷ record_kind.Config c.self.inside.config ∷ [])) (left f)) file (sure.each left image)))

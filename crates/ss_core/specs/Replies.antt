@@ -1,0 +1,158 @@
+-- What comes of a put, in steps: whether its parcel passes, why it is refused, which blocks are new, and what settling the log does;
+-- and of reading blocks: how many bytes a get answers, what the blocks of a head are, and how a fault is answered.
+use Rattle.std.specs.{Prelude.{◌≡◌, ℕ, ◌+◌, ◌-◌, ◌^◌, ◌<◌, ◌≤◌, min, max, Bool, false, List, [], map, length, Option, None, Some, is_some, Result, Ok, Err, option_map, slice_get, sum_by, IsTrue}, Option.{unwrap_or, option_or}}
+use Rattle.ss_disk.specs.{declared.disk.Disk.Ghosts, Calls.{Leaves, Goes}, Disk.Same}
+use Rattle.ss_records.specs.declared.record.Record.{Record}
+use Rattle.ss_model.specs.{State.{State, CidSet, Kept}, Lawful.{AreSound, IsFirstFault, body_bytes, IsDagCbor, IsPairFault}, declared.{TheConstants.{PUT_BLOCKS, PUT_BYTES}, call.{Call.Call, Answer.Answer, PutReply.PutReply, HeadReply.HeadReply, GetReply.GetReply}}, Head.{blocks_of, head_refusal}}
+use Rattle.ss_core.specs.{declared.{split_core.SplitCore.SplitCore, blocks.BlockFault.BlockFault, fresh.{Fresh.Fresh, Looked.Looked}}, Calls.{Steps, Makes}, StandsFor.{StandsFor, HasEitherState}}
+use Rattle.ss_cbor.specs.{Fault.scanned, declared.fault.CborFault.CborFault}
+use Rattle.ss_store.specs.{Places.CidMap, declared.{place.Place.Place, fault.StoreFault.StoreFault}}
+use Rattle.ss_hot.specs.Store.{Hot, AreNotHot}
+use Rattle.ss_chain.specs.{Header.HeaderFields, Tipset.tipset_of}
+use Rattle.ss_cid.specs.Cid.{identity_of}
+use Rattle.std.specs.FinMap as finite_map
+use Rattle.std.specs.FinSet as finite_set
+
+-- the parcel has no more blocks and bytes than a put may have, and each may be stored
+pub record IsReady (pairs : List (List ℕ × List ℕ)) : Type 0 where
+  pub few : length pairs ≤ PUT_BLOCKS
+  pub short : body_bytes pairs ≤ PUT_BYTES
+  pub sound : AreSound pairs
+
+-- the bytes that one pair takes of a put, and those of a put, by the places of the blocks that are kept
+abbrev pub held_bytes : CidMap Place → List ℕ × List ℕ → ℕ
+held_bytes places p = length p.0 + 4 + max (length p.1) (unwrap_or (option_map (λ place. place.len) (finite_map.get places p.0)) 0)
+
+abbrev pub held_put_bytes : CidMap Place → List (List ℕ × List ℕ) → ℕ
+held_put_bytes places pairs = 3 + sum_by (held_bytes places) pairs
+
+-- Why a put is refused before memory is asked for, over any disk: by the open views, the parcel and the blocks' places.
+abbrev pub IsRefused : {D : Type 0} {disk : Ghosts D} → SplitCore D disk → ℕ → List (List ℕ × List ℕ) → PutReply → Type 0
+IsRefused core v pairs PutReply.BadView = finite_set.contains core.views v ≡ false
+IsRefused core v pairs (PutReply.TooMany n) = PUT_BLOCKS < length pairs
+IsRefused core v pairs (PutReply.TooBig n) = PUT_BYTES < held_put_bytes core.hot.places pairs
+IsRefused core v pairs refusal = IsFirstFault pairs refusal
+
+-- such a refusal has its cause, and leaves the store as it was
+abbrev pub IsDueTo : {D : Type 0} {disk : Ghosts D} → SplitCore D disk → SplitCore D disk → ℕ → List (List ℕ × List ℕ) → PutReply → Type 0
+IsDueTo old new v pairs PutReply.NoMemory = Unit {0}
+IsDueTo old new v pairs (PutReply.TableFull rows) = Unit {0}
+IsDueTo old new v pairs (PutReply.LogFull file need room) = Unit {0}
+IsDueTo old new v pairs PutReply.DiskFault = Unit {0}
+IsDueTo old new v pairs (PutReply.Stored n) = Unit {0}
+IsDueTo old new v pairs refusal = (new ≡ old) × IsRefused old v pairs refusal
+
+-- What a put does: its step, what it does over any disk, and why it is refused. The views stay.
+pub record Puts {D : Type 0} {disk : Ghosts D} (old new : SplitCore D disk) (v : ℕ) (pairs : List (List ℕ × List ℕ)) (result : PutReply) : Type 0 where
+  pub told : IsTrue disk.told → (s : State) (doubt : Option Record) → StandsFor old s doubt → Steps old new s doubt (Call.Put v pairs) (Answer.Put result)
+  pub made : Makes old new (Call.Put v pairs) (Answer.Put result)
+  pub due : IsDueTo old new v pairs result
+  pub views : new.views ≡ old.views
+
+-- the record in doubt once a log was settled, or could not be
+abbrev pub doubt_after : {E : Type 0} → Result (Unit {0}) E → Option Record → Option Record
+doubt_after (Ok _) doubt = None
+doubt_after (Err _) doubt = doubt
+
+-- A store whose log was settled, or could not be, stands for the state that it stood for.
+pub record Settles {D E : Type 0} {disk : Ghosts D} (old new : SplitCore D disk) (s : State) (doubt : Option Record) (result : Result (Unit {0}) E) : Type 0 where
+  pub after : StandsFor new s (doubt_after result doubt)
+  pub stops : Leaves disk old.hot.log.file (HasEitherState s doubt) old.disk new.disk
+
+-- the refusal of a put by a fault of its pair at this place
+abbrev pub refusal_of : BlockFault → ℕ → PutReply
+refusal_of BlockFault.TooLarge i = PutReply.TooLarge i
+refusal_of BlockFault.UnknownHash i = PutReply.UnknownHash i
+refusal_of BlockFault.Mismatch i = PutReply.Mismatch i
+refusal_of (BlockFault.Malformed kind at) i = PutReply.Malformed i kind at
+
+-- the block is no item, and this is where
+abbrev pub IsMalformed : List ℕ × List ℕ → BlockFault → Type 0
+IsMalformed p (BlockFault.Malformed kind at) = IsDagCbor p.0 × ((found : CborFault) × (scanned p.1 ≡ Err found) × (kind ≡ found.kind) × (at ≡ min found.at (2 ^ 32 - 1)))
+IsMalformed p _ = ⊥
+
+-- the block has this fault
+abbrev pub IsFaultOf : List ℕ × List ℕ → BlockFault → Type 0
+IsFaultOf p fault = (i : ℕ) → IsPairFault i p (refusal_of fault i)
+
+-- the CIDs at which a place is held
+abbrev pub cids_of : CidMap Place → CidSet
+cids_of places = finite_set.from_list (finite_map.keys places)
+
+-- for each pair it is noted whether a place is held at its CID
+abbrev pub AreNoted : CidMap Place → List (List ℕ × List ℕ) → List Bool → Type 0
+AreNoted places pairs noted = (k : ℕ) (p : List ℕ × List ℕ) → slice_get pairs k ≡ Some p → slice_get noted k ≡ Some (is_some (finite_map.get places p.0))
+
+-- A look at each pair told whether it is hot, and where none is, the bytes of a record of these pairs.
+pub record IsLooked (hot : Hot) (pairs : List (List ℕ × List ℕ)) (looked : Looked) : Type 0 where
+  pub own : AreNotHot hot pairs → looked.bytes ≡ min (body_bytes pairs) (2 ^ 64 - 1)
+  pub noted : AreNoted hot.places pairs looked.kept
+
+-- the pairs at these places are these
+abbrev pub ArePairsAt : List (List ℕ × List ℕ) → List ℕ → List (List ℕ × List ℕ) → Type 0
+ArePairsAt pairs places chosen = map (slice_get pairs) places ≡ map Some chosen
+
+-- the new blocks of a parcel: none, all of them, or these
+abbrev pub IsFresh : List (List ℕ × List ℕ) → List (List ℕ × List ℕ) → Fresh → Type 0
+IsFresh pairs new Fresh.Nothing = new ≡ []
+IsFresh pairs new Fresh.All = (new ≡ pairs) × (1 ≤ length pairs)
+IsFresh pairs new (Fresh.Part blocks) = (new ≡ blocks) × (1 ≤ length blocks)
+
+-- ---- reading blocks
+
+-- how many bytes the block of a CID has: of an identity CID those of its digest, of another as many as its place tells
+abbrev pub len_of : Hot → List ℕ → Option ℕ
+len_of hot c = option_or (option_map length (identity_of c)) (option_map (λ place. place.len) (finite_map.get hot.places c))
+
+-- the block of this CID, which is not an identity CID, lies at this place
+abbrev pub LiesAt : Hot → List ℕ → Place → Type 0
+LiesAt hot c p = (identity_of c ≡ None) × (finite_map.get hot.places c ≡ Some p)
+
+-- a block that was found has so many bytes
+abbrev pub HasLen : Option ℕ → GetReply → Type 0
+HasLen len (GetReply.Found block) = len ≡ Some (length block)
+HasLen len _ = Unit {0}
+
+-- of a store no more than the disk changed, and of the disk no file
+pub record OnlyReads {D : Type 0} {disk : Ghosts D} (old new : SplitCore D disk) : Type 0 where
+  pub goes : Goes disk Same old.disk new.disk
+  pub hot : new.hot ≡ old.hot
+  pub views : new.views ≡ old.views
+
+-- an answer that is decided before a block is read
+abbrev pub IsUnread : HeadReply → Type 0
+IsUnread HeadReply.Empty = Unit {0}
+IsUnread (HeadReply.TooMany n) = Unit {0}
+IsUnread (HeadReply.Repeated i) = Unit {0}
+IsUnread (HeadReply.Absent i) = Unit {0}
+IsUnread _ = ⊥
+
+-- an answer that reading the blocks may give
+abbrev pub IsJudgement : HeadReply → Type 0
+IsJudgement HeadReply.NoMemory = Unit {0}
+IsJudgement HeadReply.DiskFault = Unit {0}
+IsJudgement (HeadReply.NotHeader i) = Unit {0}
+IsJudgement (HeadReply.HeightDiffers i) = Unit {0}
+IsJudgement (HeadReply.ParentsDiffer i) = Unit {0}
+IsJudgement _ = ⊥
+
+-- the height of the tipset, or what is refused; out of memory and a fault of the disk say nothing of it
+abbrev pub IsJudged : Kept → List (List ℕ) → Result ℕ HeadReply → Type 0
+IsJudged kept cids (Ok height) = tipset_of (blocks_of kept cids) ≡ Ok height
+IsJudged kept cids (Err HeadReply.NoMemory) = Unit {0}
+IsJudged kept cids (Err HeadReply.DiskFault) = Unit {0}
+IsJudged kept cids (Err refusal) = head_refusal kept cids ≡ Some refusal
+
+-- the height and the parents are those of a header that was read
+abbrev pub IsFirst : ℕ → List (List ℕ) → Option HeaderFields → Type 0
+IsFirst height parents (Some h) = (height ≡ h.height) × (parents ≡ h.parents)
+IsFirst height parents None = ⊥
+
+-- how the fault of a store is answered: out of memory, or a fault of the disk
+abbrev pub put_fault : StoreFault → PutReply
+put_fault StoreFault.NoMemory = PutReply.NoMemory
+put_fault _ = PutReply.DiskFault
+
+abbrev pub head_fault : StoreFault → HeadReply
+head_fault StoreFault.NoMemory = HeadReply.NoMemory
+head_fault _ = HeadReply.DiskFault

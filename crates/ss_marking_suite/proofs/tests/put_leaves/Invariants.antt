@@ -1,5 +1,0 @@
-use Rattle.ss_marking_suite.specs.Rows.{HasRowsFor}
-use Rattle.ss_marking_suite.proofs.tests.put_leaves.Given as goal
-
-abbrev pub invariant-loop-number : goal.invariant-loop-number
-invariant-loop-number l = HasRowsFor l.blocks.blocks l.marks

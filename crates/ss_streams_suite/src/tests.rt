@@ -1,3 +1,0 @@
-mod car;
-mod io;
-mod script;

@@ -24,8 +24,7 @@ pub fn next_framed<S: Source + Drop>(
 ) -> Result<(Vec<u8>, u64), CarFault>
     requires { limit ≤ 8388608 }
     ensures taken { IfOk result (λ found. Consumes (left_of S.Source source.old) (left_of S.Source source.new) (framed found.0.items)) }
-    ensures count { IfOk result (λ found. (found.1 ≡ length (framed found.0.items)) × (length found.0.items ≤ limit)) }
-    ensures few { IfOk result (λ found. found.1 < 2 ^ 32) }
+    ensures count { IfOk result (λ found. (found.1 ≡ length (framed found.0.items)) × (length found.0.items ≤ limit) × (found.1 < 2 ^ 32)) }
     ensures refused { IfErr result (Blames (UnframedFault limit) (left_of S.Source source.old)) }
     ensures cause { HasCause (faults_of S.Source source.old) (faults_of S.Source source.new) result }
     ensures place { place_of S.Source source.new ≡ place_of S.Source source.old }

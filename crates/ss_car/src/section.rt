@@ -57,8 +57,7 @@ fn next_section<S: Source + Drop>(
     source: &mut Buffered<S>,
 ) -> Result<(Cid, Bytes, u64), CarFault>
     ensures taken { IfOk result (λ found. TakesSection (left_of S.Source source.old) (left_of S.Source source.new) found.0 found.1) }
-    ensures count { IfOk result (λ found. found.2 ≡ length (framed (found.0 ++ found.1))) }
-    ensures few { IfOk result (λ found. found.2 < 2 ^ 32) }
+    ensures count { IfOk result (λ found. (found.2 ≡ length (framed (found.0 ++ found.1))) × (found.2 < 2 ^ 32)) }
     ensures refused { IfErr result (Blames SectionFault (left_of S.Source source.old)) }
     ensures cause { HasCause (faults_of S.Source source.old) (faults_of S.Source source.new) result }
     ensures place { place_of S.Source source.new ≡ place_of S.Source source.old }

@@ -1,4 +1,4 @@
-use ss_cbor::{CborFault, CborKind, Cursor, Item, scan};
+use ss_cbor::{CborFault, CborKind, Cursor, Item, Writer, scan};
 use std::alloc::Global;
 use std::test::Fail;
 
@@ -129,4 +129,18 @@ fn a_cursor_enters_and_skips(rt: HostRuntime) {
     assert!(rt; skips(&mut cursor, &[0x83, 1, 0x82, 2, 3, 0x80]));
     assert!(rt; finds(&mut cursor, &REST));
     assert!(rt; cursor.is_at_end() && !finds(&mut cursor, &REST));
+}
+
+// A byte string and a text, as a writer has them.
+fn strings(alloc: Global) -> Result<Vec<u8>, Fail> {
+    let mut writer = Writer::new(alloc);
+    writer.blob(&[1, 2, 3, 4])?;
+    writer.text(b"IETF")?;
+    Ok(Vec::from_slice(alloc, writer.finish().as_slice())?)
+}
+
+#[test]
+fn strings_are_written_as_the_examples_have_them(rt: HostRuntime) -> Result<(), Fail> {
+    assert!(rt; strings(rt.alloc())?.as_slice() == b"\x44\x01\x02\x03\x04\x64IETF".as_slice());
+    Ok(())
 }

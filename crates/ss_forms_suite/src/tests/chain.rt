@@ -1,5 +1,5 @@
-use ss_chain::{follows, links};
-use ss_cid::{CODEC_DAG_CBOR, Cid, HASH_SHA2_256};
+use ss_chain::{follows, links, tipset};
+use ss_cid::{CODEC_DAG_CBOR, Cid, HASH_SHA2_256, Parcel};
 use std::alloc::Global;
 use std::test::Fail;
 
@@ -56,5 +56,23 @@ const LINKS: &[u8] =
 fn commitments_are_links_and_are_not_followed(rt: HostRuntime) -> Result<(), Fail> {
     assert_eq!(rt; links(&cid()?, LINKS).count(), 2);
     assert!(rt; followed(rt.alloc(), 0, LINKS)?.as_slice() == [9].as_slice());
+    Ok(())
+}
+
+// The height of the tipset that headers of these heights are, each under a CID of its own, or none.
+fn height_of(alloc: Global, heights: &[u8]) -> Result<Option<u64>, Fail> {
+    let mut headers = Parcel::new(alloc);
+    for (place, height) in (0..64u8).zip(heights) {
+        let cid = Cid::make(CODEC_DAG_CBOR, HASH_SHA2_256, &[place])?;
+        headers.add(cid, &header(*height))?;
+    }
+    Ok(tipset(&headers).ok())
+}
+
+#[test]
+fn headers_of_one_height_are_a_tipset(rt: HostRuntime) -> Result<(), Fail> {
+    assert_eq!(rt; height_of(rt.alloc(), &[7, 7, 7])?, Some(7));
+    assert_eq!(rt; height_of(rt.alloc(), &[7, 7, 8])?, None);
+    assert_eq!(rt; height_of(rt.alloc(), &[])?, None);
     Ok(())
 }

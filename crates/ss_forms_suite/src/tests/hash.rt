@@ -1,4 +1,5 @@
-use ss_hash::{Blake2b, blake2b};
+use ss_cid::{CODEC_RAW, Cid, HASH_SHA2_256};
+use ss_hash::{Blake2b, blake2b, check};
 use std::alloc::Global;
 use std::test::Fail;
 
@@ -79,5 +80,21 @@ fn blake2b_at_the_edges_of_blocks(rt: HostRuntime) -> Result<(), Fail> {
             assert!(rt; has_digest(&message, digest, size), "{len} bytes by {size}");
         }
     }
+    Ok(())
+}
+
+/// The SHA-256 of `abc`, from FIPS 180-4's examples.
+const SHA_OF_ABC: &[u8] =
+    b"\xba\x78\x16\xbf\x8f\x01\xcf\xea\x41\x41\x40\xde\x5d\xae\x22\x23\xb0\x03\x61\xa3\x96\x17\x7a\x9c\xb4\x10\xff\x61\xf2\x00\x15\xad";
+
+// Whether a block is valid for the CID of `abc`.
+fn is_abc(block: &[u8]) -> Result<bool, Fail> {
+    let cid = Cid::make(CODEC_RAW, HASH_SHA2_256, SHA_OF_ABC)?;
+    Ok(check(&cid, block).is_ok())
+}
+
+#[test]
+fn a_block_is_valid_for_its_cid_alone(rt: HostRuntime) -> Result<(), Fail> {
+    assert!(rt; is_abc(b"abc")? && !is_abc(b"abd")? && !is_abc(b"")?);
     Ok(())
 }

@@ -1,12 +1,12 @@
 -- What a failed check of a block rules out.
 use Rattle.std.proofs.Common.{◌≡◌, ◌≢◌, ◌↔◌, ℕ, List, Result, Err, true≢false, sym}
 use Rattle.std.specs.Prelude.{IsOk}
-use Rattle.ss_cid.specs.declared.codec.Codec.{Codec}
+use Rattle.ss_cid.specs.declared.cid.Parts.{Parts}
 use Rattle.ss_hash.specs.declared.fault.HashFault.{HashFault}
 use Rattle.ss_hash.specs.declared.fault.HashFault.TheVariants.{UnknownHash}
 use Rattle.ss_hash.specs.Digest.{IsValid, IsUnknownHash}
 
-abbrev failed : HashFault → Result Codec HashFault
+abbrev failed : HashFault → Result Parts HashFault
 failed fault = Err fault
 
 -- the hash function is known where the check said something else

@@ -1,26 +1,21 @@
 -- The new pairs of a parcel, found one after another and told by their places.
-use Rattle.std.proofs.Common.{◌≡◌, ℕ, zero, suc, ◌+◌, ◌<◌, ◌≤◌, Bool, true, false, true≢false, cond, List, [], ◌∷◌, ◌++◌, length, drop, get_or, None, Some, refl, sym, ap, ◌∙◌, append_assoc, arith}
+use Rattle.std.proofs.Common.{◌≡◌, ◌≢◌, ℕ, zero, suc, ◌+◌, ◌≤◌, Bool, true, false, true≢false, cond, List, [], ◌∷◌, ◌++◌, length, drop, get_or, None, Some, refl, sym, ap, ◌∙◌, append_assoc, arith}
 use Rattle.std.specs.Prelude.{◌==◌, ◌||◌, not, map, is_some, slice_get, if◌then◌else◌}
 use Rattle.std.specs.Ordering.{nat_cmp, eq_by_cmp}
 use Rattle.std.specs.Cmp.{eq_by_cmp_equiv}
 use Rattle.std.specs.Cmp.Lexicographic.{slice_cmp, nat_list_cmp_total}
 use Rattle.std.specs.BTreeSet.{BTreeSet, contains}
-use Rattle.std.specs.FinMap as finite_map
 use Rattle.std.specs.FinSet as finite_set
 use Rattle.std.specs.FinSet.{contains-insert}
 use Rattle.std.proofs.Math.ListN.{drop_of_length-le}
 use Rattle.std.proofs.lemmas.List.{map-append, length-map, append-nil, drop_more}
 use Rattle.std.proofs.lemmas.Option.{slice_get_within, get_or_from_slice_get}
-use Rattle.ss_cid.specs.Cid.{identity_of, hash_of, digest_of}
+use Rattle.ss_cid.specs.Cid.{identity_of, hash_of, digest_of, hash_named}
 use Rattle.ss_cid.specs.declared.codec.HashCode.{HashCode}
-use Rattle.ss_hash.specs.Digest.{IsDigest, IsValid}
-use Rattle.ss_store.specs.Places.{CidMap}
-use Rattle.ss_store.specs.declared.place.Place.{Place}
 use Rattle.ss_model.specs.State.{CidSet}
 use Rattle.ss_model.specs.Lawful.{is_left_out, new_pairs}
-use Rattle.ss_core.specs.Replies.{AreNoted, ArePairsAt, cids_of}
-use Rattle.ss_core.proofs.Gets.{digest_short}
-use Rattle.ss_core.proofs.Puts.{picked, fresh_few, cids_known}
+use Rattle.ss_core.specs.Replies.{AreNoted, ArePairsAt}
+use Rattle.ss_core.proofs.Puts.{picked, fresh_few}
 
 -- where as many are new as there are, all are
 pub all_new : (h : CidSet) (pairs : List (List ℕ × List ℕ)) → length (new_pairs h pairs) ≡ length pairs → new_pairs h pairs ≡ pairs
@@ -83,28 +78,43 @@ unfolding is_left_out
 from_here known pairs i p a out at has left =
     ap (new_pairs known) (next_pair pairs i p at) ∙ ap (picked known p (drop (i + 1) pairs)) (ap (λ b. is_some (identity_of p.0) || b) has ∙ left)
 
--- whether a pair is left out or was met, by what is noted of its CID
-pub told : (places : CidMap Place) (met : BTreeSet (List ℕ)) (c : List ℕ) (id kept said : Bool) → is_some (identity_of c) ≡ id → is_some (finite_map.get places c) ≡ kept → contains (slice_cmp nat_cmp) met c ≡ said
-    → (is_some (identity_of c) || (finite_set.contains (cids_of places) c || contains (slice_cmp nat_cmp) met c)) ≡ (id || (kept || said))
-told places met c id kept said a b m k = a k || ((cids_known places c ∙ b) k || m k)
+-- the hash code of an identity CID, and of another
+pub identity_code : (c : List ℕ) (code : HashCode) → code ≡ hash_named (hash_of c) → code ≡ HashCode.Identity → is_some (identity_of c) ≡ true
+unfolding identity_of
+identity_code c code named is = go (hash_of c == 0) (hash_of c == 0x12) (hash_of c == 0xb220) (sym named ∙ is)
+  where
+    go : (a b d : Bool) → (if a then HashCode.Identity else (if b then HashCode.Sha2x256 else if d then HashCode.Blake2b256 else HashCode.Other (hash_of c))) ≡ HashCode.Identity → is_some (if a then Some (digest_of c) else None) ≡ true
+    go true b d e = refl
+    go false true d e = absurd cc
+    go false false true e = absurd cc
+    go false false false e = absurd cc
 
--- a kept pair is left out, whatever its CID
-pub or_true : (a : Bool) → (a || true) ≡ true
-or_true true = refl
-or_true false = refl
+pub other_code : (c : List ℕ) (code : HashCode) → code ≡ hash_named (hash_of c) → code ≢ HashCode.Identity → is_some (identity_of c) ≡ false
+unfolding identity_of
+other_code c code named not = go (hash_of c == 0) (λ e. not (named ∙ e))
+  where
+    go : (a : Bool) → (if a then HashCode.Identity else (if hash_of c == 0x12 then HashCode.Sha2x256 else if hash_of c == 0xb220 then HashCode.Blake2b256 else HashCode.Other (hash_of c))) ≢ HashCode.Identity → is_some (if a then Some (digest_of c) else None) ≡ false
+    go true other = absurd (other refl)
+    go false other = refl
+
+-- whether a CID is left out, by what is told of it
+pub left_out_is : (hot : CidSet) (c : List ℕ) (identity kept : Bool) → is_some (identity_of c) ≡ identity → finite_set.contains hot c ≡ kept → is_left_out hot c ≡ (identity || kept)
+unfolding is_left_out
+left_out_is hot c identity kept a b = λ k. a k || b k
+
+or_assoc : (a b m : Bool) → (a || (b || m)) ≡ ((a || b) || m)
+or_assoc true b m = refl
+or_assoc false b m = refl
+
+-- whether a pair is left out or was met, by what is noted of its CID
+pub told : (hot : CidSet) (met : BTreeSet (List ℕ)) (c : List ℕ) (out said : Bool) → is_left_out hot c ≡ out → contains (slice_cmp nat_cmp) met c ≡ said
+    → (is_some (identity_of c) || (finite_set.contains hot c || contains (slice_cmp nat_cmp) met c)) ≡ (out || said)
+unfolding is_left_out
+told hot met c out said a m = or_assoc (is_some (identity_of c)) _ _ ∙ (λ k. a k || m k)
 
 -- what is noted of a pair
-pub noted_is : (places : CidMap Place) (pairs : List (List ℕ × List ℕ)) (noted : List Bool) (i : ℕ) (p : List ℕ × List ℕ) (d : Bool) → AreNoted places pairs noted → slice_get pairs i ≡ Some p → is_some (finite_map.get places p.0) ≡ get_or noted i d
-noted_is places pairs noted i p d are at = sym (get_or_from_slice_get noted i _ d (are i p at))
-
--- the CID of a valid block that is longer is no identity CID
-pub not_identity : (c bytes : List ℕ) → IsValid c bytes → length c < length bytes → is_some (identity_of c) ≡ false
-unfolding identity_of
-not_identity c bytes valid longer = go (hash_of c == 0) valid
-  where
-    go : (b : Bool) → IsDigest (if b then HashCode.Identity else (if hash_of c == 0x12 then HashCode.Sha2x256 else if hash_of c == 0xb220 then HashCode.Blake2b256 else HashCode.Other (hash_of c))) (digest_of c) bytes → is_some (if b then Some (digest_of c) else None) ≡ false
-    go true same = absurd (omega (arith, ap (λ (l : List ℕ). length l) same, digest_short c, longer))
-    go false other = refl
+pub noted_is : (holds : List ℕ → Bool) (pairs : List (List ℕ × List ℕ)) (noted : List Bool) (i : ℕ) (p : List ℕ × List ℕ) (d : Bool) → AreNoted holds pairs noted → slice_get pairs i ≡ Some p → holds p.0 ≡ get_or noted i d
+noted_is holds pairs noted i p d are at = sym (get_or_from_slice_get noted i _ d (are i p at))
 
 -- what was added was not there, and what was not added was
 pub was_there : (there added : Bool) → added ≡ not there → there ≡ not added

@@ -60,16 +60,27 @@ pub length_some : (found : Option Place) (told : Option ℕ) → told ≡ option
 length_some None told is = ap is_some is
 length_some (Some place) told is = ap is_some is
 
+-- what holds of the pairs before a place, one pair further
+pub each_more : (holds : List ℕ × List ℕ → Type 0) (pairs : List (List ℕ × List ℕ)) (i : ℕ) (p : List ℕ × List ℕ) → slice_get pairs i ≡ Some p → holds p
+    → ((k : ℕ) (q : List ℕ × List ℕ) → k < i → slice_get pairs k ≡ Some q → holds q)
+    → (k : ℕ) (q : List ℕ × List ℕ) → k < i + 1 → slice_get pairs k ≡ Some q → holds q
+each_more holds pairs i p here is before k q within at = elim (cases_lt k i) [
+  | inl less ↦ before k q less at
+  | inr more ↦
+      let same : k ≡ i = omega (arith, more, within) in
+      subst holds (sym (get_or_from_slice_get pairs i p p here) ∙ ap (λ n. get_or pairs n p) (sym same) ∙ get_or_from_slice_get pairs k q p at) is
+]
+
 -- one pair more is noted
-pub noted_more : (places : CidMap Place) (pairs : List (List ℕ × List ℕ)) (noted : List Bool) (i : ℕ) (p : List ℕ × List ℕ) (b : Bool) → slice_get pairs i ≡ Some p → i < length noted → b ≡ is_some (finite_map.get places p.0)
-    → ((k : ℕ) (q : List ℕ × List ℕ) → k < i → slice_get pairs k ≡ Some q → slice_get noted k ≡ Some (is_some (finite_map.get places q.0)))
-    → (k : ℕ) (q : List ℕ × List ℕ) → k < i + 1 → slice_get pairs k ≡ Some q → slice_get (set noted i b) k ≡ Some (is_some (finite_map.get places q.0))
-noted_more places pairs noted i p b here room is before k q within at = elim (cases_lt k i) [
+pub noted_more : (holds : List ℕ → Bool) (pairs : List (List ℕ × List ℕ)) (noted : List Bool) (i : ℕ) (p : List ℕ × List ℕ) (b : Bool) → slice_get pairs i ≡ Some p → i < length noted → b ≡ holds p.0
+    → ((k : ℕ) (q : List ℕ × List ℕ) → k < i → slice_get pairs k ≡ Some q → slice_get noted k ≡ Some (holds q.0))
+    → (k : ℕ) (q : List ℕ × List ℕ) → k < i + 1 → slice_get pairs k ≡ Some q → slice_get (set noted i b) k ≡ Some (holds q.0)
+noted_more holds pairs noted i p b here room is before k q within at = elim (cases_lt k i) [
   | inl less ↦
       let was = before k q less at in
       slice_get-get_or (set noted i b) k b (subst (λ n. k < n) (sym (length-set noted i b)) (slice_get_within noted k _ was)) ∙ ap Some (get_or-set_other noted i k b b (λ e. omega (arith, e, less)) ∙ get_or_from_slice_get noted k _ b was)
   | inr more ↦
       let same : k ≡ i = omega (arith, more, within) in
       let pair : p ≡ q = sym (get_or_from_slice_get pairs i p p here) ∙ ap (λ n. get_or pairs n p) (sym same) ∙ get_or_from_slice_get pairs k q p at in
-      slice_get-get_or (set noted i b) k b (subst (λ n. k < n) (sym (length-set noted i b)) (omega (arith, same, room))) ∙ ap Some (get_or-set_at noted i k b b same room ∙ is ∙ ap (λ (r : List ℕ × List ℕ). is_some (finite_map.get places r.0)) pair)
+      slice_get-get_or (set noted i b) k b (subst (λ n. k < n) (sym (length-set noted i b)) (omega (arith, same, room))) ∙ ap Some (get_or-set_at noted i k b b same room ∙ is ∙ ap (λ (r : List ℕ × List ℕ). holds r.0) pair)
 ]

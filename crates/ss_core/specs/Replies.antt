@@ -1,9 +1,9 @@
 -- What comes of a put, in steps: whether its parcel passes, why it is refused, which blocks are new, and what settling the log does;
 -- and of reading blocks: how many bytes a get answers, what the blocks of a head are, and how a fault is answered.
-use Rattle.std.specs.{Prelude.{◌≡◌, ℕ, ◌+◌, ◌-◌, ◌^◌, ◌<◌, ◌≤◌, min, max, Bool, false, List, [], map, length, Option, None, Some, is_some, Result, Ok, Err, option_map, slice_get, sum_by, IsTrue}, Option.{unwrap_or, option_or}}
+use Rattle.std.specs.{Prelude.{◌≡◌, ℕ, ◌+◌, ◌-◌, ◌^◌, ◌<◌, ◌≤◌, min, max, Bool, false, List, [], map, length, Option, None, Some, Result, Ok, Err, option_map, slice_get, sum_by, IsTrue}, Option.{unwrap_or, option_or}}
 use Rattle.ss_disk.specs.{declared.disk.Disk.Ghosts, Calls.{Leaves, Goes}, Disk.Same}
 use Rattle.ss_records.specs.declared.record.Record.{Record}
-use Rattle.ss_model.specs.{State.{State, CidSet, Kept}, Lawful.{AreSound, IsFirstFault, body_bytes, IsDagCbor, IsPairFault}, declared.{TheConstants.{PUT_BLOCKS, PUT_BYTES}, call.{Call.Call, Answer.Answer, PutReply.PutReply, HeadReply.HeadReply, GetReply.GetReply}}, Head.{blocks_of, head_refusal}}
+use Rattle.ss_model.specs.{State.{State, CidSet, Kept}, Lawful.{AreSound, IsFirstFault, body_bytes, IsDagCbor, IsPairFault, is_left_out}, declared.{TheConstants.{PUT_BLOCKS, PUT_BYTES}, call.{Call.Call, Answer.Answer, PutReply.PutReply, HeadReply.HeadReply, GetReply.GetReply}}, Head.{blocks_of, head_refusal}}
 use Rattle.ss_core.specs.{declared.{split_core.SplitCore.SplitCore, blocks.BlockFault.BlockFault, fresh.{Fresh.Fresh, Looked.Looked}}, Calls.{Steps, Makes}, StandsFor.{StandsFor, HasEitherState}}
 use Rattle.ss_cbor.specs.{Fault.scanned, declared.fault.CborFault.CborFault}
 use Rattle.ss_store.specs.{Places.CidMap, declared.{place.Place.Place, fault.StoreFault.StoreFault}}
@@ -79,14 +79,14 @@ IsFaultOf p fault = (i : ℕ) → IsPairFault i p (refusal_of fault i)
 abbrev pub cids_of : CidMap Place → CidSet
 cids_of places = finite_set.from_list (finite_map.keys places)
 
--- for each pair it is noted whether a place is held at its CID
-abbrev pub AreNoted : CidMap Place → List (List ℕ × List ℕ) → List Bool → Type 0
-AreNoted places pairs noted = (k : ℕ) (p : List ℕ × List ℕ) → slice_get pairs k ≡ Some p → slice_get noted k ≡ Some (is_some (finite_map.get places p.0))
+-- for each pair it is noted whether this holds of its CID
+abbrev pub AreNoted : (List ℕ → Bool) → List (List ℕ × List ℕ) → List Bool → Type 0
+AreNoted holds pairs noted = (k : ℕ) (p : List ℕ × List ℕ) → slice_get pairs k ≡ Some p → slice_get noted k ≡ Some (holds p.0)
 
--- A look at each pair told whether it is hot, and where none is, the bytes of a record of these pairs.
+-- A look at each pair told whether its record leaves it out, and where none is hot, the bytes of a record of these pairs.
 pub record IsLooked (hot : Hot) (pairs : List (List ℕ × List ℕ)) (looked : Looked) : Type 0 where
   pub own : AreNotHot hot pairs → looked.bytes ≡ min (body_bytes pairs) (2 ^ 64 - 1)
-  pub noted : AreNoted hot.places pairs looked.kept
+  pub noted : AreNoted (is_left_out (cids_of hot.places)) pairs looked.left_out
 
 -- the pairs at these places are these
 abbrev pub ArePairsAt : List (List ℕ × List ℕ) → List ℕ → List (List ℕ × List ℕ) → Type 0

@@ -1,15 +1,18 @@
 //! Which blocks may be stored, and how many bytes a record of them has.
 
-ghost use Rattle.std.specs.Prelude.{◌≡◌, ◌^◌, ◌<◌, ℕ, List, OnOk, IfErr, IsOk, MatchOption};
-ghost use Rattle.ss_cid.specs.Cid.{codec_of, codec_named};
-ghost use Rattle.ss_model.specs.Lawful.{IsSound, AreSound, IsDagCbor, IsFirstFault, body_bytes};
+ghost use Rattle.std.specs.Prelude.{◌≡◌, ◌^◌, ◌<◌, ◌≤◌, ℕ, List, length, OnOk, IfErr, IfOk, IsOk, MatchResult};
+ghost use Rattle.std.specs.FinSet as finite_set;
+ghost use Rattle.ss_cid.specs.Cid.{codec_of, codec_named, hash_of, hash_named};
+ghost use Rattle.ss_model.specs.State.{CidSet};
+ghost use Rattle.ss_model.specs.Lawful.{IsSound, AreSound, IsDagCbor, IsFirstFault, body_bytes, is_left_out};
+ghost use Rattle.ss_model.specs.declared.TheConstants.{PUT_BLOCKS};
 ghost use Rattle.ss_cbor.specs.Fault.{scanned};
-ghost use Rattle.ss_core.specs.Replies.{IsFaultOf, IsMalformed, refusal_of};
+ghost use Rattle.ss_core.specs.Replies.{AreNoted, IsFaultOf, IsMalformed, refusal_of};
 
 use ss_cbor::{CborKind, scan};
-use ss_cid::{Cid, Codec, Parcel};
-use ss_hash::{HashFault, check_for_codec};
-use ss_model::{BLOCK_BYTES, PutReply};
+use ss_cid::{Cid, Codec, HashCode, Parcel};
+use ss_hash::{HashFault, check_for_parts};
+use ss_model::{BLOCK_BYTES, PUT_BLOCKS, PutReply};
 
 /// Why a block is not stored.
 #[derive(Clone, Copy, Debug, PartialEq, Eq)]
@@ -38,16 +41,21 @@ impl BlockFault {
     }
 }
 
-/// Whether a block may be stored: no longer than a block may be, valid for its CID, and under dag-cbor one item.
-pub fn check_block(cid: &Cid, block: &[u8]) -> Result<(), BlockFault>
+/// Whether a block may be stored: no longer than a block may be, valid for its CID, and under dag-cbor one item. Hands on the
+/// CID's hash code, so that the CID is read once.
+pub fn check_block(cid: &Cid, block: &[u8]) -> Result<HashCode, BlockFault>
     ensures sound { OnOk result (IsSound (cid.now, block.now)) }
+    ensures hash_code { IfOk result (λ code. code ≡ hash_named (hash_of cid.now)) }
     ensures fault { IfErr result (IsFaultOf (cid.now, block.now)) }
 {
     if cid.as_bytes().len() + block.len() > BLOCK_BYTES {
         return Err(BlockFault::TooLarge);
     }
-    match check_for_codec(cid, block) {
-        Ok(codec) => check_item(codec, block),
+    match check_for_parts(cid, block) {
+        Ok(parts) => {
+            check_item(parts.codec, block)?;
+            Ok(parts.hash_code)
+        }
         Err(HashFault::UnknownHash { .. }) => Err(BlockFault::UnknownHash),
         Err(HashFault::Mismatch { .. }) => Err(BlockFault::Mismatch),
         Err(HashFault::NotIdentity { .. }) => Err(BlockFault::Mismatch),
@@ -71,17 +79,25 @@ fn check_item(codec: Codec, block: &[u8]) -> Result<(), BlockFault>
     }
 }
 
-/// The refusal of a put by the first pair of its parcel that may not be stored.
-pub fn first_fault(parcel: &Parcel) -> Option<PutReply>
-    ensures { MatchOption result (AreSound parcel.now) (IsFirstFault parcel.now) }
+/// For each pair of a parcel, whether its record leaves it out: its CID is kept, or an identity CID. Or the refusal of its put by
+/// the first pair that may not be stored.
+pub fn check_blocks(
+    parcel: &Parcel,
+    kept: &[bool; PUT_BLOCKS],
+) -> Result<[bool; PUT_BLOCKS], PutReply>
+    requires { length parcel.now ≤ PUT_BLOCKS }
+    ensures judged { MatchResult result (λ _. AreSound parcel.now) (IsFirstFault parcel.now) }
+    ensures left_out { (hot : CidSet) → AreNoted (finite_set.contains hot) parcel.now kept.now → IfOk result (AreNoted (is_left_out hot) parcel.now) }
 {
+    let mut left_out = [false; PUT_BLOCKS];
     for i in 0..parcel.len() {
         let (cid, block) = parcel.at(i);
-        if let Err(fault) = check_block(&cid, block) {
-            return Some(fault.refusal(i as u32));
+        match check_block(&cid, block) {
+            Ok(hash_code) => left_out[i] = matches!(hash_code, HashCode::Identity) || kept[i],
+            Err(fault) => return Err(fault.refusal(i as u32)),
         }
     }
-    None
+    Ok(left_out)
 }
 
 /// The bytes of the body of a record of these blocks.

@@ -1,15 +1,12 @@
 //! The blocks of a parcel that are new to a store.
 
-ghost use Rattle.std.specs.Prelude.{◌≡◌, ◌<◌, ◌≤◌, length, is_some, All, IfOk};
-ghost use Rattle.ss_cid.specs.Cid.{identity_of};
-ghost use Rattle.ss_hash.specs.Digest.{IsValid};
-ghost use Rattle.ss_store.specs.Places.{CidMap};
-ghost use Rattle.ss_store.specs.declared.place.Place.{Place};
-ghost use Rattle.ss_model.specs.Lawful.{AreSound, new_pairs};
+ghost use Rattle.std.specs.Prelude.{◌<◌, ◌≤◌, length, All, IfOk};
+ghost use Rattle.ss_model.specs.State.{CidSet};
+ghost use Rattle.ss_model.specs.Lawful.{is_left_out, new_pairs};
 ghost use Rattle.ss_model.specs.declared.TheConstants.{PUT_BLOCKS};
-ghost use Rattle.ss_core.specs.Replies.{AreNoted, ArePairsAt, IsFresh, cids_of};
+ghost use Rattle.ss_core.specs.Replies.{AreNoted, ArePairsAt, IsFresh};
 
-use ss_cid::{Cid, NoMemory, Parcel};
+use ss_cid::{NoMemory, Parcel};
 use ss_model::PUT_BLOCKS;
 use std::alloc::Global;
 use std::collections::BTreeSet;
@@ -19,8 +16,8 @@ use std::collections::BTreeSet;
 pub(crate) struct Looked {
     /// The bytes that a put of the parcel takes, 2^64 - 1 at the most.
     pub bytes: u64,
-    /// For each pair in order, whether its CID is kept.
-    pub kept: [bool; PUT_BLOCKS],
+    /// For each pair in order, whether its record leaves it out: its CID is kept, or an identity CID.
+    pub left_out: [bool; PUT_BLOCKS],
 }
 
 /// The new blocks of a parcel.
@@ -34,18 +31,17 @@ pub(crate) enum Fresh {
     Part(Parcel),
 }
 
-/// The blocks of a parcel whose CIDs are neither identity CIDs nor kept, each where its CID first stands. They are copied only
-/// where others stand among them.
+/// The blocks of a parcel that are not left out, each where its CID first stands. They are copied only where others stand among
+/// them.
 pub(crate) fn fresh_blocks(
     alloc: Global,
     parcel: &Parcel,
-    kept: &[bool; PUT_BLOCKS],
+    left_out: &[bool; PUT_BLOCKS],
 ) -> Result<Fresh, NoMemory>
-    requires few { length parcel.now ≤ PUT_BLOCKS }
-    requires sound { AreSound parcel.now }
-    ensures { (places : CidMap Place) → AreNoted places parcel.now kept.now → IfOk result (IsFresh parcel.now (new_pairs (cids_of places) parcel.now)) }
+    requires { length parcel.now ≤ PUT_BLOCKS }
+    ensures { (hot : CidSet) → AreNoted (is_left_out hot) parcel.now left_out.now → IfOk result (IsFresh parcel.now (new_pairs hot parcel.now)) }
 {
-    let places = new_places(alloc, parcel, kept)?;
+    let places = new_places(alloc, parcel, left_out)?;
     if places.is_empty() {
         return Ok(Fresh::Nothing);
     }
@@ -59,33 +55,24 @@ pub(crate) fn fresh_blocks(
 fn new_places(
     alloc: Global,
     parcel: &Parcel,
-    kept: &[bool; PUT_BLOCKS],
+    left_out: &[bool; PUT_BLOCKS],
 ) -> Result<Vec<usize>, NoMemory>
-    requires few { length parcel.now ≤ PUT_BLOCKS }
-    requires sound { AreSound parcel.now }
+    requires { length parcel.now ≤ PUT_BLOCKS }
     ensures within { IfOk result (λ found. All (λ i. i < length parcel.now) found.items) }
-    ensures new { (places : CidMap Place) → AreNoted places parcel.now kept.now → IfOk result (λ found. ArePairsAt parcel.now found.items (new_pairs (cids_of places) parcel.now)) }
+    ensures new { (hot : CidSet) → AreNoted (is_left_out hot) parcel.now left_out.now → IfOk result (λ found. ArePairsAt parcel.now found.items (new_pairs hot parcel.now)) }
 {
     let mut met = BTreeSet::new(alloc);
     let mut places = Vec::new(alloc);
     for i in 0..parcel.len() {
-        let (cid, block) = parcel.at(i);
-        if kept[i] || is_identity(&cid, block) {
+        if left_out[i] {
             continue;
         }
+        let (cid, _) = parcel.at(i);
         if met.insert(cid)? {
             places.push(i)?;
         }
     }
     Ok(places)
-}
-
-// Whether a valid block's CID is an identity CID. Its digest is the block then, so the CID of a longer block is not read again.
-fn is_identity(cid: &Cid, block: &[u8]) -> bool
-    requires { IsValid cid.now block.now }
-    ensures { result ≡ is_some (identity_of cid.now) }
-{
-    block.len() <= cid.as_bytes().len() && cid.identity().is_some()
 }
 
 // A copy of the blocks at these indices.

@@ -1,12 +1,12 @@
 ghost use Rattle.std.specs.Prelude.{◌≡◌, ◌≢◌, ℕ, ◌↔◌, List, IsOk, OnOk, OnErr, IfOk, IfSome};
-ghost use Rattle.ss_cid.specs.Cid.{codec_of, codec_named};
+ghost use Rattle.ss_cid.specs.Cid.{codec_of, codec_named, digest_of, hash_of, hash_named};
 ghost use Rattle.ss_hash.specs.Blake2b.{blake2b};
 ghost use Rattle.ss_hash.specs.Digest.{IsValid, IsUnknownHash, IsMismatch, IsNotIdentity, PartAt};
 
 use crate::digest::blake2b;
 use crate::fault::HashFault;
 use sha2::{Digest, Sha256};
-use ss_cid::{Cid, Codec, HASH_BLAKE2B_256, HASH_SHA2_256, HashCode, Parts};
+use ss_cid::{Cid, HASH_BLAKE2B_256, HASH_SHA2_256, HashCode, Parts};
 
 /// The length of a digest in bytes, but for an identity CID.
 const DIGEST_LEN: usize = 32;
@@ -38,15 +38,15 @@ fn blake2b_256(bytes: &[u8]) -> [u8; DIGEST_LEN]
     digest
 }
 
-// Compares the CID's digest with that of the bytes, and hands on the CID's codec where they are the same.
-fn check_digest(parts: &Parts<'_>, got: [u8; DIGEST_LEN]) -> Result<Codec, HashFault>
-    ensures same { IsOk result ↔ (parts.now.digest.now ≡ got) }
-    ensures codec { OnOk result (result ≡ Ok parts.now.codec) }
-    ensures other { OnErr result ((result ≡ Err (HashFault.Mismatch got)) × (parts.now.digest.now ≢ got)) }
+// Compares a CID's digest with that of the bytes, and hands the CID's parts on where they are the same.
+fn check_digest(parts: Parts<'_>, got: [u8; DIGEST_LEN]) -> Result<Parts<'_>, HashFault>
+    ensures same { IsOk result ↔ (parts.entry.digest.now ≡ got) }
+    ensures parts { OnOk result (result ≡ Ok parts.entry) }
+    ensures other { OnErr result ((result ≡ Err (HashFault.Mismatch got)) × (parts.entry.digest.now ≢ got)) }
 {
     let digest = parts.digest;
     if digest == &got[..] {
-        Ok(parts.codec)
+        Ok(parts)
     } else {
         Err(HashFault::Mismatch { got })
     }
@@ -65,16 +65,18 @@ pub fn check(cid: &Cid, bytes: &[u8]) -> Result<(), HashFault>
     ensures mismatch { (got : List ℕ) → (result ≡ Err (HashFault.Mismatch got)) ↔ IsMismatch cid.now bytes.now got }
     ensures not_identity { (at : ℕ) → (result ≡ Err (HashFault.NotIdentity at)) ↔ IsNotIdentity cid.now bytes.now at }
 {
-    match check_for_codec(cid, bytes) {
+    match check_for_parts(cid, bytes) {
         Ok(_) => Ok(()),
         Err(fault) => Err(fault),
     }
 }
 
-/// As [`check`], and hands on the CID's codec, which is read together with its digest.
-pub fn check_for_codec(cid: &Cid, bytes: &[u8]) -> Result<Codec, HashFault>
+/// As [`check`], and hands on the CID's parts, which are read for it once.
+pub fn check_for_parts<'a>(cid: &'a Cid, bytes: &[u8]) -> Result<Parts<'a>, HashFault>
     ensures valid { IsOk result ↔ IsValid cid.now bytes.now }
-    ensures codec { IfOk result (λ codec. codec ≡ codec_named (codec_of cid.now)) }
+    ensures codec { IfOk result (λ parts. parts.codec ≡ codec_named (codec_of cid.now)) }
+    ensures hash_code { IfOk result (λ parts. parts.hash_code ≡ hash_named (hash_of cid.now)) }
+    ensures digest { IfOk result (λ parts. parts.digest.now ≡ digest_of cid.now) }
     ensures unknown { (code : ℕ) → (result ≡ Err (HashFault.UnknownHash code)) ↔ IsUnknownHash cid.now code }
     ensures mismatch { (got : List ℕ) → (result ≡ Err (HashFault.Mismatch got)) ↔ IsMismatch cid.now bytes.now got }
     ensures not_identity { (at : ℕ) → (result ≡ Err (HashFault.NotIdentity at)) ↔ IsNotIdentity cid.now bytes.now at }
@@ -83,14 +85,14 @@ pub fn check_for_codec(cid: &Cid, bytes: &[u8]) -> Result<Codec, HashFault>
     let digest = parts.digest;
     match parts.hash_code {
         HashCode::Identity => match first_difference(digest, bytes) {
-            None => Ok(parts.codec),
+            None => Ok(parts),
             Some(at) => Err(HashFault::NotIdentity { at }),
         },
         HashCode::Sha2x256 if digest.len() == DIGEST_LEN => {
-            check_digest(&parts, Sha256::digest(bytes))
+            check_digest(parts, Sha256::digest(bytes))
         }
         HashCode::Blake2b256 if digest.len() == DIGEST_LEN => {
-            check_digest(&parts, blake2b_256(bytes))
+            check_digest(parts, blake2b_256(bytes))
         }
         HashCode::Sha2x256 => Err(HashFault::UnknownHash {
             code: HASH_SHA2_256,

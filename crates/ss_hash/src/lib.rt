@@ -18,7 +18,7 @@ mod fault;
 mod hasher;
 mod state;
 
-pub use block::{check, check_for_codec};
+pub use block::{check, check_for_parts};
 pub use digest::blake2b;
 pub use fault::HashFault;
 pub use hasher::Blake2b;

@@ -1,7 +1,11 @@
 use ss_app::{Exit, run_alone};
-use ss_cid::Bytes;
+use ss_cid::{Bytes, CODEC_RAW, Cid, HASH_IDENTITY};
+use ss_core::SplitCore;
 use ss_disk::{Disk, MemoryDisk};
 use ss_io::{MemorySink, MemorySource};
+use ss_model::{Answer, Call, GetReply, ViewReply};
+use ss_open::init;
+use ss_records::{Config, Mode};
 use std::alloc::Global;
 use std::test::Fail;
 
@@ -285,5 +289,42 @@ fn a_store_that_was_half_made_is_made_again(rt: HostRuntime) -> Result<(), Fail>
         );
         assert!(rt; is_made_after_fault(rt.alloc(), call)?, "at call {call}");
     }
+    Ok(())
+}
+
+// Whether a call of a store and its answer's copy open the first view.
+fn opens_twice(alloc: Global, store: &mut SplitCore<MemoryDisk>) -> bool {
+    let (answer, copy) = store.call(alloc, &Call::OpenView);
+    let first = ViewReply::Opened(0);
+    matches!((answer, copy), (Answer::View(one), Answer::View(other)) if one == first && other == first)
+}
+
+// Whether this is the answer of a get that found these bytes.
+fn is_found(answer: &Answer, block: &[u8]) -> bool {
+    matches!(answer, Answer::Get(GetReply::Found(bytes)) if bytes.as_slice() == block)
+}
+
+// Whether a get and its answer's copy have these bytes.
+fn finds_twice(alloc: Global, store: &mut SplitCore<MemoryDisk>, cid: Cid, block: &[u8]) -> bool {
+    let (answer, copy) = store.call(alloc, &Call::Get { view: 0, cid });
+    is_found(&answer, block) && is_found(&copy, block)
+}
+
+#[test]
+fn a_call_is_answered_twice(rt: HostRuntime) -> Result<(), Fail> {
+    let config = Config {
+        mode: Mode::Discard,
+        depth: 0,
+        threshold: 1,
+        batch: 1,
+        rows: 1,
+        limit: 65_536,
+    };
+    let Ok(mut store) = init(rt.alloc(), MemoryDisk::new(rt.alloc())?, config) else {
+        panic!(rt; "no store was made");
+    };
+    assert!(rt; opens_twice(rt.alloc(), &mut store));
+    let cid = Cid::make(CODEC_RAW, HASH_IDENTITY, b"abc")?;
+    assert!(rt; finds_twice(rt.alloc(), &mut store, cid, b"abc"));
     Ok(())
 }

@@ -1,10 +1,11 @@
 //! Puts.
 
 ghost use Rattle.std.specs.Prelude.{◌≡◌, ◌+◌, ◌-◌, ◌^◌, ◌≤◌, ℕ, List, length, min, max, Option, IfOk, MatchResult};
+ghost use Rattle.std.specs.FinSet as finite_set;
 ghost use Rattle.ss_records.specs.declared.record.Record.{Record};
 
 use super::{HOT, SplitCore};
-use crate::blocks::{body_bytes, first_fault};
+use crate::blocks::{body_bytes, check_blocks};
 use crate::fault::put_fault;
 use crate::fresh::{Fresh, Looked, fresh_blocks};
 use ss_cid::{Cid, NoMemory, Parcel};
@@ -19,7 +20,7 @@ impl<D: Disk> SplitCore<D> {
     ghost use Rattle.ss_model.specs.State.{State};
     ghost use Rattle.ss_model.specs.Lawful.{IsPassed, IsPutRefusal, body_bytes, new_pairs, put_bytes};
     ghost use Rattle.ss_model.specs.declared.TheConstants.{PUT_BLOCKS, PUT_BYTES};
-    ghost use Rattle.ss_core.specs.Replies.{IsLooked, IsReady, IsRefused, Puts, held_put_bytes};
+    ghost use Rattle.ss_core.specs.Replies.{AreNoted, IsLooked, IsReady, IsRefused, Puts, cids_of, held_put_bytes};
     ghost use Rattle.ss_core.specs.StandsFor.{StandsFor};
 
     /// Stores the blocks of a parcel that are new, by one record. A log in doubt is settled first.
@@ -34,7 +35,7 @@ impl<D: Disk> SplitCore<D> {
             Ok(looked) => looked,
             Err(refusal) => return refusal,
         };
-        match fresh_blocks(alloc, parcel, &looked.kept) {
+        match fresh_blocks(alloc, parcel, &looked.left_out) {
             // No record is written, but one that is in doubt is undone.
             Ok(Fresh::Nothing) => match self.settle() {
                 Ok(()) => PutReply::Stored { new: 0 },
@@ -89,24 +90,23 @@ impl<D: Disk> SplitCore<D> {
             let n = parcel.len() as u32;
             return Err(PutReply::TooMany { n });
         }
-        let looked = self.look(parcel);
-        if looked.bytes > PUT_BYTES {
-            let bytes = looked.bytes;
+        let (bytes, kept) = self.look(parcel);
+        if bytes > PUT_BYTES {
             return Err(PutReply::TooBig { bytes });
         }
-        match first_fault(parcel) {
-            Some(refusal) => Err(refusal),
-            None => Ok(looked),
-        }
+        let left_out = check_blocks(parcel, &kept)?;
+        Ok(Looked { bytes, left_out })
     }
 
-    // Looks each CID of a parcel up, once.
-    fn look(&self, parcel: &Parcel) -> Looked
+    // The bytes that a put of a parcel takes, 2^64 - 1 at the most, and for each pair in order, whether its CID is kept. Each CID
+    // is looked up once.
+    fn look(&self, parcel: &Parcel) -> (u64, [bool; PUT_BLOCKS])
         requires { length parcel.now ≤ PUT_BLOCKS }
-        ensures least { min (body_bytes parcel.now) (2 ^ 64 - 1) ≤ result.bytes }
-        ensures held { result.bytes ≡ min (held_put_bytes self.now.hot.places parcel.now) (2 ^ 64 - 1) }
-        ensures all { (s : State) (doubt : Option Record) → StandsFor self.now s doubt → result.bytes ≡ min (put_bytes s.kept parcel.now) (2 ^ 64 - 1) }
-        ensures looked { IsLooked self.now.hot parcel.now result }
+        ensures least { min (body_bytes parcel.now) (2 ^ 64 - 1) ≤ result.0 }
+        ensures held { result.0 ≡ min (held_put_bytes self.now.hot.places parcel.now) (2 ^ 64 - 1) }
+        ensures all { (s : State) (doubt : Option Record) → StandsFor self.now s doubt → result.0 ≡ min (put_bytes s.kept parcel.now) (2 ^ 64 - 1) }
+        ensures own { AreNotHot self.now.hot parcel.now → result.0 ≡ min (body_bytes parcel.now) (2 ^ 64 - 1) }
+        ensures kept { AreNoted (finite_set.contains (cids_of self.now.hot.places)) parcel.now result.1 }
     {
         let mut bytes = 3u64;
         let mut kept = [false; PUT_BLOCKS];
@@ -116,7 +116,7 @@ impl<D: Disk> SplitCore<D> {
             kept[i] = len.is_some();
             bytes = bytes.saturating_add(pair_bytes(&cid, block, len.unwrap_or(0)));
         }
-        Looked { bytes, kept }
+        (bytes, kept)
     }
 }
 

@@ -1,7 +1,10 @@
-use Rattle.std.proofs.Common.{◌≡◌, ℕ, ◌-◌, ◌^◌, List, false, take, ap, ◌∙◌, arith}
+use Rattle.std.proofs.Common.{◌≡◌, ℕ, ◌-◌, ◌^◌, List, false, take, sym, ap, ◌∙◌, arith}
 use Rattle.std.specs.Option.{unwrap_or}
+use Rattle.std.specs.FinSet as finite_set
 use Rattle.std.proofs.lemmas.List.{take_all, length-set, length-replicate}
 use Rattle.std.proofs.lemmas.Option.{slice_get_within}
+use Rattle.ss_core.specs.Replies.{cids_of}
+use Rattle.ss_core.proofs.Puts.{cids_known}
 use Rattle.ss_core.proofs.PutBytes.{bytes_more, held_more, least_more, own_more, kept_is, none_is, length_some, noted_more}
 use Rattle.ss_core.proofs.split_core.SplitCore.look.Goals as goal
 
@@ -26,7 +29,7 @@ loop-i-preserved g c =
       own = λ none. own_more c.args.parcel.now c.loop-i.i pair c.loop-i.bytes c.pair_bytes.result c.saturating_add-bytes.result (2 ^ 64 - 1) c.at-cid.ensures (c.loop-i.invariant.own none)
           (omega (arith, c.pair_bytes.ensures, none_is c.args.self.now.hot c.args.parcel.now c.loop-i.i pair _ c.unwrap_or.result none c.at-cid.ensures c.kept_len-len.ensures.place c.unwrap_or.ensures)) c.saturating_add-bytes.ensures;
       room = length-set c.loop-i.kept c.loop-i.i c.is_some.result ∙ c.loop-i.invariant.room;
-      noted = noted_more c.args.self.now.hot.places c.args.parcel.now c.loop-i.kept c.loop-i.i pair c.is_some.result c.at-cid.ensures (omega (arith, c.requires, c.loop-i.invariant.room, c.loop-i-test.true, c.len-i-end.ensures.value)) (c.is_some.ensures ∙ length_some _ _ c.kept_len-len.ensures.place) c.loop-i.invariant.noted;
+      noted = noted_more (finite_set.contains (cids_of c.args.self.now.hot.places)) c.args.parcel.now c.loop-i.kept c.loop-i.i pair c.is_some.result c.at-cid.ensures (omega (arith, c.requires, c.loop-i.invariant.room, c.loop-i-test.true, c.len-i-end.ensures.value)) (c.is_some.ensures ∙ length_some _ _ c.kept_len-len.ensures.place ∙ sym (cids_known c.args.self.now.hot.places pair.0)) c.loop-i.invariant.noted;
     }
 
 pub returns-clause-least : goal.returns-clause-least
@@ -44,9 +47,10 @@ returns-clause-all g c = λ s doubt stands.
     let whole : take c.loop-i.i c.args.parcel.now ≡ c.args.parcel.now = take_all c.loop-i.i c.args.parcel.now (omega arith) in
     rw whole at (c.loop-i.invariant.all s doubt stands)
 
-pub returns-clause-looked : goal.returns-clause-looked
-returns-clause-looked g c =
-    let whole : take c.loop-i.i c.args.parcel.now ≡ c.args.parcel.now = take_all c.loop-i.i c.args.parcel.now (omega arith) in record {
-      own = λ none. rw whole at (c.loop-i.invariant.own none);
-      noted = λ k p at. c.loop-i.invariant.noted k p (omega (arith, slice_get_within c.args.parcel.now k p at, c.loop-i-test.false, c.len-i-end.ensures.value)) at;
-    }
+pub returns-clause-own : goal.returns-clause-own
+returns-clause-own g c =
+    let whole : take c.loop-i.i c.args.parcel.now ≡ c.args.parcel.now = take_all c.loop-i.i c.args.parcel.now (omega arith) in
+    λ none. rw whole at (c.loop-i.invariant.own none)
+
+pub returns-clause-kept : goal.returns-clause-kept
+returns-clause-kept g c = λ k p at. c.loop-i.invariant.noted k p (omega (arith, slice_get_within c.args.parcel.now k p at, c.loop-i-test.false, c.len-i-end.ensures.value)) at

@@ -4,8 +4,7 @@ use Rattle.ss_model.specs.declared.call.Call.TheVariants as call
 use Rattle.ss_model.specs.declared.call.Answer.TheVariants as answer
 use Rattle.ss_model.specs.declared.call.PutReply.{PutReply}
 use Rattle.ss_model.specs.declared.call.PutReply.TheVariants as put
-use Rattle.ss_core.specs.Replies.{Puts}
-use Rattle.ss_core.specs.Replies.{put_fault}
+use Rattle.ss_core.specs.Replies.{Puts, cids_of, put_fault}
 use Rattle.ss_core.proofs.Made.{idle_makes, put_stored, put_failed, counted_kept}
 use Rattle.ss_core.proofs.PutSteps.{new_are, new_fits, new_short, new_absent, own_body, no_memory, not_settled, none_stored, none_few}
 use Rattle.ss_core.proofs.Refusals.{refused_puts}
@@ -15,29 +14,29 @@ pub returns-in-Err : goal.returns-in-Err
 returns-in-Err g c = refused_puts g.D.Disk c.args.self.now c.args.view c.args.parcel.now c.in-Err.refusal c.in-Err.ensures.decides c.in-Err.ensures.ready
 
 pub put_fresh-requires-clause-blocks : goal.put_fresh-requires-clause-blocks
-put_fresh-requires-clause-blocks g c = let e = rw c.in-Ok-All.field-0-is at (c.in-Ok-All.ensures c.args.self.now.hot.places c.in-Ok.ensures.looked.noted) in new_fits c.args.self.now.hot.places c.args.parcel.now c.args.parcel.now c.in-Ok.ensures.ready e.0 e.1
+put_fresh-requires-clause-blocks g c = let e = rw c.in-Ok-All.field-0-is at (c.in-Ok-All.ensures (cids_of c.args.self.now.hot.places) c.in-Ok.ensures.looked.noted) in new_fits c.args.self.now.hot.places c.args.parcel.now c.args.parcel.now c.in-Ok.ensures.ready e.0 e.1
 
 pub put_fresh-requires-clause-new : goal.put_fresh-requires-clause-new
-put_fresh-requires-clause-new g c = new_absent c.args.self.now.hot c.args.parcel.now c.args.parcel.now (rw c.in-Ok-All.field-0-is at (c.in-Ok-All.ensures c.args.self.now.hot.places c.in-Ok.ensures.looked.noted)).0
+put_fresh-requires-clause-new g c = new_absent c.args.self.now.hot c.args.parcel.now c.args.parcel.now (rw c.in-Ok-All.field-0-is at (c.in-Ok-All.ensures (cids_of c.args.self.now.hot.places) c.in-Ok.ensures.looked.noted)).0
 
 pub put_fresh-requires-clause-body : goal.put_fresh-requires-clause-body
-put_fresh-requires-clause-body g c = own_body c.args.self.now.hot c.args.parcel.now c.in-Ok.looked c.in-Ok.ensures.ready c.in-Ok.ensures.looked (rw c.in-Ok-All.field-0-is at (c.in-Ok-All.ensures c.args.self.now.hot.places c.in-Ok.ensures.looked.noted)).0
+put_fresh-requires-clause-body g c = own_body c.args.self.now.hot c.args.parcel.now c.in-Ok.looked c.in-Ok.ensures.ready c.in-Ok.ensures.looked (rw c.in-Ok-All.field-0-is at (c.in-Ok-All.ensures (cids_of c.args.self.now.hot.places) c.in-Ok.ensures.looked.noted)).0
 
 pub body_bytes-requires : goal.body_bytes-requires
-body_bytes-requires g c = omega (arith, new_short c.args.self.now.hot.places c.args.parcel.now c.in-Ok-Part.fresh 15728640 c.in-Ok.ensures.ready.short (rw c.in-Ok-Part.field-0-is at (c.in-Ok-Part.ensures c.args.self.now.hot.places c.in-Ok.ensures.looked.noted)).0)
+body_bytes-requires g c = omega (arith, new_short c.args.self.now.hot.places c.args.parcel.now c.in-Ok-Part.fresh 15728640 c.in-Ok.ensures.ready.short (rw c.in-Ok-Part.field-0-is at (c.in-Ok-Part.ensures (cids_of c.args.self.now.hot.places) c.in-Ok.ensures.looked.noted)).0)
 
 pub put_fresh-requires-in-Ok-Part-clause-blocks : goal.put_fresh-requires-in-Ok-Part-clause-blocks
-put_fresh-requires-in-Ok-Part-clause-blocks g c = let e = rw c.in-Ok-Part.field-0-is at (c.in-Ok-Part.ensures c.args.self.now.hot.places c.in-Ok.ensures.looked.noted) in new_fits c.args.self.now.hot.places c.args.parcel.now c.in-Ok-Part.fresh c.in-Ok.ensures.ready e.0 e.1
+put_fresh-requires-in-Ok-Part-clause-blocks g c = let e = rw c.in-Ok-Part.field-0-is at (c.in-Ok-Part.ensures (cids_of c.args.self.now.hot.places) c.in-Ok.ensures.looked.noted) in new_fits c.args.self.now.hot.places c.args.parcel.now c.in-Ok-Part.fresh c.in-Ok.ensures.ready e.0 e.1
 
 pub put_fresh-requires-in-Ok-Part-clause-short : goal.put_fresh-requires-in-Ok-Part-clause-short
-put_fresh-requires-in-Ok-Part-clause-short g c = new_short c.args.self.now.hot.places c.args.parcel.now c.in-Ok-Part.fresh 15728640 c.in-Ok.ensures.ready.short (rw c.in-Ok-Part.field-0-is at (c.in-Ok-Part.ensures c.args.self.now.hot.places c.in-Ok.ensures.looked.noted)).0
+put_fresh-requires-in-Ok-Part-clause-short g c = new_short c.args.self.now.hot.places c.args.parcel.now c.in-Ok-Part.fresh 15728640 c.in-Ok.ensures.ready.short (rw c.in-Ok-Part.field-0-is at (c.in-Ok-Part.ensures (cids_of c.args.self.now.hot.places) c.in-Ok.ensures.looked.noted)).0
 
 pub put_fresh-requires-in-Ok-Part-clause-new : goal.put_fresh-requires-in-Ok-Part-clause-new
-put_fresh-requires-in-Ok-Part-clause-new g c = new_absent c.args.self.now.hot c.args.parcel.now c.in-Ok-Part.fresh (rw c.in-Ok-Part.field-0-is at (c.in-Ok-Part.ensures c.args.self.now.hot.places c.in-Ok.ensures.looked.noted)).0
+put_fresh-requires-in-Ok-Part-clause-new g c = new_absent c.args.self.now.hot c.args.parcel.now c.in-Ok-Part.fresh (rw c.in-Ok-Part.field-0-is at (c.in-Ok-Part.ensures (cids_of c.args.self.now.hot.places) c.in-Ok.ensures.looked.noted)).0
 
 pub returns-in-Ok-settle : goal.returns-in-Ok-settle
 returns-in-Ok-settle g c =
-    let none = rw c.in-Ok-Nothing.field-0-is at (c.in-Ok-Nothing.ensures c.args.self.now.hot.places c.in-Ok.ensures.looked.noted) in
+    let none = rw c.in-Ok-Nothing.field-0-is at (c.in-Ok-Nothing.ensures (cids_of c.args.self.now.hot.places) c.in-Ok.ensures.looked.noted) in
     record {
       told = λ told s doubt stands.
           let settled = c.in-Ok-settle.ensures.told told s doubt stands in
@@ -50,7 +49,7 @@ returns-in-Ok-settle g c =
 
 pub returns-in-Err-settle : goal.returns-in-Err-settle
 returns-in-Err-settle g c =
-    let none = rw c.in-Ok-Nothing.field-0-is at (c.in-Ok-Nothing.ensures c.args.self.now.hot.places c.in-Ok.ensures.looked.noted) in
+    let none = rw c.in-Ok-Nothing.field-0-is at (c.in-Ok-Nothing.ensures (cids_of c.args.self.now.hot.places) c.in-Ok.ensures.looked.noted) in
     let fault : c.in-Err-settle.fault ≡ _ = c.in-Err-settle.ensures.errors c.in-Err-settle.fault refl in
     let reply : c.put_fault.result ≡ put.DiskFault = c.put_fault.ensures ∙ ap put_fault fault in
     subst (λ (r : PutReply). Puts c.args.self.now c.settle.new.self c.args.view c.args.parcel.now r) (sym reply) (record {
@@ -65,11 +64,11 @@ returns-in-Err-settle g c =
 
 pub returns-in-Ok-All : goal.returns-in-Ok-All
 returns-in-Ok-All g c = c.put_fresh.ensures c.args.view c.args.parcel.now (λ s doubt stands.
-    (c.in-Ok.ensures.decides s doubt stands, new_are g.D.Disk c.args.self.now s doubt stands c.args.parcel.now ∙ (rw c.in-Ok-All.field-0-is at (c.in-Ok-All.ensures c.args.self.now.hot.places c.in-Ok.ensures.looked.noted)).0))
+    (c.in-Ok.ensures.decides s doubt stands, new_are g.D.Disk c.args.self.now s doubt stands c.args.parcel.now ∙ (rw c.in-Ok-All.field-0-is at (c.in-Ok-All.ensures (cids_of c.args.self.now.hot.places) c.in-Ok.ensures.looked.noted)).0))
 
 pub returns-in-Ok-Part : goal.returns-in-Ok-Part
 returns-in-Ok-Part g c = c.put_fresh-in-Ok-Part.ensures c.args.view c.args.parcel.now (λ s doubt stands.
-    (c.in-Ok.ensures.decides s doubt stands, new_are g.D.Disk c.args.self.now s doubt stands c.args.parcel.now ∙ (rw c.in-Ok-Part.field-0-is at (c.in-Ok-Part.ensures c.args.self.now.hot.places c.in-Ok.ensures.looked.noted)).0))
+    (c.in-Ok.ensures.decides s doubt stands, new_are g.D.Disk c.args.self.now s doubt stands c.args.parcel.now ∙ (rw c.in-Ok-Part.field-0-is at (c.in-Ok-Part.ensures (cids_of c.args.self.now.hot.places) c.in-Ok.ensures.looked.noted)).0))
 
 pub returns-in-Err-fresh_blocks : goal.returns-in-Err-fresh_blocks
 returns-in-Err-fresh_blocks g c = record {

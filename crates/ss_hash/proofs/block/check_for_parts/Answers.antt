@@ -3,7 +3,7 @@ use Rattle.ss_cid.specs.Cid.{digest_of}
 use Rattle.ss_hash.specs.Digest.{PartAt}
 use Rattle.ss_hash.specs.declared.fault.HashFault.TheVariants.{NotIdentity}
 use Rattle.ss_hash.proofs.Digests.{part_unique}
-use Rattle.ss_hash.proofs.block.check_for_codec.Goals as goal
+use Rattle.ss_hash.proofs.block.check_for_parts.Goals as goal
 
 pub returns-in-Some-clause-not_identity : goal.returns-in-Some-clause-not_identity
 returns-in-Some-clause-not_identity c = λ at.

@@ -10,11 +10,14 @@ import shutil
 import subprocess
 
 from checking import check, expect, expect_that
-from stores import SECONDS, Ended, new_store
+from stores import HOT, SECONDS, Ended, Store, new_folder, new_store, written
 
 TOP = os.path.dirname(os.path.dirname(os.path.abspath(__file__)))
 BUILT = os.path.join("crates", "splitstore", "out", "splitstore")
 DOCUMENTS = ["README.md", "docs/*.md", "examples/README.md"]
+
+# The hot log of a store that was just made, which the interpreter of examples/run is given.
+EMPTY = "empty.store"
 
 # The examples that need the store of others, and these.
 AFTER = {"twice": ["first"]}
@@ -77,17 +80,33 @@ def documents(trial):
     return f"{count} sessions"
 
 
+def names_of_examples():
+    return sorted(name[:-len(".script")] for name in os.listdir(os.path.join(TOP, "examples")) if name.endswith(".script"))
+
+
 @check("every example prints what stands beside it, byte by byte")
 def examples(trial):
-    names = sorted(name[:-len(".script")] for name in os.listdir(os.path.join(TOP, "examples")) if name.endswith(".script"))
+    names = names_of_examples()
     for name in names:
         store = new_store(trial, name)
         for each in [*AFTER.get(name, []), name]:
             ended = store.trace(read(f"examples/{each}.script"))
             expect(f"the example {each}", ended, Ended(0, read(f"examples/{each}.out").encode("utf-8"), b""))
-    files = {"README.md", "run", "chain.car", *(f"{name}.{kind}" for name in names for kind in ("script", "out"))}
+    files = {"README.md", "run", "chain.car", EMPTY, *(f"{name}.{kind}" for name in names for kind in ("script", "out"))}
     expect("the files of examples/", sorted(os.listdir(os.path.join(TOP, "examples"))), sorted(files))
     return f"{len(names)} examples"
+
+
+@check("the store that stands in examples/ is, byte by byte, the hot log that `init` makes, and each example prints the same on it alone")
+def empty_store(trial):
+    with open(os.path.join(TOP, "examples", EMPTY), "rb") as file:
+        log = file.read()
+    expect(f"the bytes of examples/{EMPTY}", log, new_store(trial).log())
+    for name in names_of_examples():
+        if name not in AFTER:
+            store = Store(trial.program, new_folder(trial, name))
+            written(trial, log, os.path.join(name, HOT))
+            expect(f"the example {name} on it", store.trace(read(f"examples/{name}.script")).out, read(f"examples/{name}.out").encode("utf-8"))
 
 
 @check("examples/run prints `store made` and what its examples print")

@@ -8,8 +8,8 @@ import subprocess
 
 from checking import Skipped, check, expect
 from formats import random_block
-from stores import (FILES, HOT, INIT, NO_STORE, Ended, Program, Store, answers, closing, files_in, found, get_line, new_folder, new_store,
-                    put_line, puts_and_gets, script_of)
+from stores import (FILES, HOT, INIT, NO_STORE, Ended, Program, Store, answers, closing, files_in, finish, found, get_line, new_folder,
+                    new_store, put_line, puts_and_gets, script_of)
 
 NOBODY = 65534
 
@@ -137,6 +137,55 @@ def folder_without_permission(trial):
             expect(f"{arguments[0]} in a folder of mode {mode:o}", program.run(folder, *arguments, before=before), wanted)
         os.chmod(folder, 0o755)
         expect(f"the files of a folder of mode {mode:o}", files_in(folder), {})
+
+
+def expect_info(store, program, before, wanted, what):
+    """Expects what `info` answers, and that it changes nothing."""
+    kept = store.files()
+    expect(f"info {what}", program.run(store.folder, "info", before=before), wanted)
+    expect(f"the files after info {what}", store.files(), kept)
+
+
+@check("info reads a store whose log and folder cannot be written, and makes no file in a folder that has none")
+def info_without_permission(trial):
+    program, before = unprivileged(trial)
+    store = filled(trial)
+    wanted = store.info()
+    expect("the status of info", wanted.status, 0)
+    for log, folder in ((0o444, 0o755), (0o644, 0o555), (0o444, 0o555)):
+        os.chmod(os.path.join(store.folder, HOT), log)
+        os.chmod(store.folder, folder)
+        expect_info(store, program, before, wanted, f"with a log of mode {log:o} in a folder of mode {folder:o}")
+    os.chmod(store.folder, 0o755)
+    os.chmod(os.path.join(store.folder, HOT), 0o222)
+    expect("info with a log that cannot be read", program.run(store.folder, "info", before=before), disk_fault(HOT, "open", errno.EACCES))
+    os.chmod(os.path.join(store.folder, HOT), 0o644)
+    linked = new_folder(trial, "linked")
+    os.symlink(os.path.join(trial.folder, "nowhere"), os.path.join(linked, HOT))
+    expect("info with a log that is a link to nothing", trial.program.run(linked, "info"), disk_fault(HOT, "open", errno.ENOENT))
+    empty = Store(trial.program, new_folder(trial, "empty"))
+    expect_info(empty, trial.program, [], NO_STORE, "in an empty folder")
+    os.chmod(empty.folder, 0o555)
+    expect_info(empty, program, before, NO_STORE, "in an empty folder that cannot be written")
+
+
+@check("info reads a store on a file system that is mounted for reading alone, and trace and init end there with status 6")
+def read_only_mount(trial):
+    store = filled(trial)
+    wanted = store.info()
+    mount = [["mount", "--bind", store.folder, store.folder], ["mount", "-o", "remount,bind,ro", store.folder]]
+    inside = " && ".join(" ".join(each) for each in mount)
+
+    def run(*arguments):
+        command = ["unshare", "--mount", "sh", "-c", f'{inside} && cd "$0" && exec "$@"', store.folder, trial.program.path, *arguments]
+        return finish(subprocess.Popen(command, stdin=subprocess.DEVNULL, stdout=subprocess.PIPE, stderr=subprocess.PIPE))
+
+    if shutil.which("unshare") is None or run("--version").status != 0:
+        raise Skipped("nothing can be mounted here")
+    expect("info on a mount for reading", run("info"), wanted)
+    for arguments in (INIT, ["trace"]):
+        expect(f"{arguments[0]} on a mount for reading", run(*arguments), disk_fault(HOT, "open", errno.EROFS))
+    store.expect_found("after a mount for reading")
 
 
 @check("a hot log without permission ends init and trace with status 6 and its reason, and keeps its blocks")

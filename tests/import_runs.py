@@ -27,8 +27,11 @@ KILLS, PIECE, PAUSE = 20, 4096, 0.001
 # What moves the cursor of a terminal or clears a part of it.
 CONTROL = rb"\x1b\[[0-9;?]*[A-Za-z]"
 
-# The most lines of progress a second.
-LINES_A_SECOND = 10
+# What is shown of progress: megabytes that were read, of how many, the rate, and the time that is left.
+PROGRESS = re.compile(rb"splitstore: (\d+\.\d)(?: of (\d+\.\d))? MB, \d+\.\d MB/s(?:, \d+ (?:s|min) left)?")
+
+# What clears the line of progress at its end.
+CLEARED = b"\r\x1b[K"
 
 
 def give(process, data, piece=65_536, pause=0.0):
@@ -321,30 +324,30 @@ class Terminal:
 
 
 def watched(program, store, data, pause):
-    """An import whose input comes in pieces with pauses and whose standard error is a terminal: its end, seconds, and lines there."""
+    """An import whose input comes in pieces with pauses and whose standard error is a terminal: its end, seconds, and terminal."""
     terminal = Terminal()
     began = time.monotonic()
     process = program.start(store.folder, "import", stdin=-1, stderr=terminal.theirs)
     os.close(terminal.theirs)
     give(process, data, len(data) // 30, pause)
     ended = finish(process)
-    return ended, time.monotonic() - began, terminal.lines()
+    return ended, time.monotonic() - began, terminal
 
 
-def numbers(line):
-    """The numbers of a line, whose digits may be in groups."""
-    return [int(each.replace(b",", b"")) for each in re.findall(rb"[0-9][0-9,]*", line)]
+def expect_progress(terminal, seconds, data, of=None):
+    """Expects one line that is written over at most once a second, with megabytes that do not fall, and is cleared in the end."""
+    lines = terminal.lines()
+    shown = [PROGRESS.fullmatch(line) for line in lines]
+    expect_that(all(shown), f"each line tells of progress: {lines[:3]}")
+    expect_that(0 < len(lines) <= seconds, f"{len(lines)} lines of progress in {seconds:.1f} seconds")
+    expect_that(b"\n" not in terminal.printed and terminal.printed.endswith(CLEARED), f"one line is written over: {terminal.printed!r}")
+    counts = [float(each[1]) for each in shown]
+    expect_that(counts == sorted(counts) and counts[-1] <= len(data) / 1e6, f"the megabytes rise up to {len(data) / 1e6}: {counts}")
+    expect("of how many", {each[2] for each in shown}, {of})
+    return f"{len(lines)} lines in {seconds:.1f} s"
 
 
-def expect_progress(lines, seconds, most):
-    """Expects lines of a number of bytes that does not fall, not more than ten a second."""
-    expect_that(0 < len(lines) <= LINES_A_SECOND * seconds + 1, f"{len(lines)} lines of progress in {seconds:.1f} seconds")
-    counts = [numbers(line)[:1] for line in lines]
-    expect_that([] not in counts and all(b"bytes" in line for line in lines), f"each line tells bytes: {lines[:3]}")
-    expect_that(counts == sorted(counts) and counts[-1][0] <= most, f"the bytes rise up to {most}: {counts}")
-
-
-@check("an import shows on a terminal, at most ten times a second, how many bytes it has read, and prints the same as without one")
+@check("an import shows on a terminal, at most once a second, how much it has read, and prints the same as without one")
 def progress_of_pipe(trial):
     fresh, (blocks, data) = new_store(trial, "fresh"), tall(trial.random, 600, 300)
     usual = copied(trial, fresh)
@@ -352,15 +355,16 @@ def progress_of_pipe(trial):
     expect("an import without a terminal", wanted, imported(len(blocks), len(blocks), 600))
     files = usual.files()
     store = copied(trial, fresh)
-    ended, seconds, lines = watched(trial.program, store, data, 0.04)
+    ended, seconds, terminal = watched(trial.program, store, data, 0.09)
     expect("an import with a terminal", (ended.status, ended.out), (wanted.status, wanted.out))
     expect("the files after it", store.files(), files)
-    expect_progress(lines, seconds, len(data))
-    store = copied(trial, fresh)
-    ended, _, none = watched(trial.program.with_environment(SPLITSTORE_PROGRESS="no"), store, data, 0.02)
-    expect("an import with SPLITSTORE_PROGRESS=no", (ended.status, ended.out, none), (wanted.status, wanted.out, []))
-    expect("the files after that", store.files(), files)
-    return f"{len(lines)} lines in {seconds:.1f} s"
+    shown = expect_progress(terminal, seconds, data)
+    for off in ("no", "0", "off", "false"):
+        store = copied(trial, fresh)
+        ended, _, terminal = watched(trial.program.with_environment(SPLITSTORE_PROGRESS=off), store, data, 0.05)
+        expect(f"an import with SPLITSTORE_PROGRESS={off}", (ended.status, ended.out, terminal.lines()), (wanted.status, wanted.out, []))
+        expect("the files after that", store.files(), files)
+    return shown
 
 
 @check("an import whose standard error is no terminal shows no progress, whatever its standard output is")
@@ -368,12 +372,12 @@ def no_progress(trial):
     fresh, (blocks, data) = new_store(trial, "fresh"), tall(trial.random, 300, 100)
     wanted = imported(len(blocks), len(blocks), 300)
     process = trial.program.start(copied(trial, fresh).folder, "import", stdin=-1)
-    give(process, data, len(data) // 20, 0.03)
+    give(process, data, len(data) // 20, 0.07)
     expect("an import with pipes", finish(process), wanted)
     terminal = Terminal()
     process = trial.program.start(copied(trial, fresh).folder, "import", stdin=-1, stdout=terminal.theirs)
     os.close(terminal.theirs)
-    give(process, data, len(data) // 20, 0.03)
+    give(process, data, len(data) // 20, 0.07)
     ended = finish(process)
     expect("an import that prints on a terminal", (ended.status, ended.err, terminal.lines()), (0, b"", [wanted.out.strip()]))
 
@@ -390,26 +394,25 @@ def stopped_and_continued(process):
     return time.monotonic() - began
 
 
-@check("an import of a file shows on a terminal of how many bytes it has read how many")
+@check("an import of a file shows on a terminal how much it has read, of how much there is from where the file stood")
 def progress_of_file(trial):
-    blocks = [random_block(trial.random, 1_000_000) for _ in range(25)]
+    blocks, ahead = [random_block(trial.random, 1_000_000) for _ in range(50)], bytes(9_000_000)
     data = car(blocks)
 
     def attempt():
         store, terminal = copied(trial, fresh), Terminal()
         with open(path, "rb") as file:
+            os.lseek(file.fileno(), len(ahead), os.SEEK_SET)
             process = trial.program.start(store.folder, "import", *HEAD_NO, stdin=file, stderr=terminal.theirs)
         os.close(terminal.theirs)
         seconds = stopped_and_continued(process)
-        ended, lines = finish(process), terminal.lines()
-        expect("an import of a file", (ended.status, ended.out), (0, imported(25, 25).out))
-        if seconds < 0.4:
+        ended = finish(process)
+        expect("an import of a file", (ended.status, ended.out), (0, imported(50, 50).out))
+        if seconds < 1.5:
             raise Missed(f"an import of a file had ended after {seconds:.2f} seconds")
-        expect_progress(lines, seconds, len(data))
-        expect_that(all(len(data) in numbers(line)[1:] for line in lines), f"each line tells of how many bytes: {lines[:3]}")
-        return f"{len(lines)} lines in {seconds:.1f} s"
+        return expect_progress(terminal, seconds, data, b"50.0")
 
-    fresh, path = new_store(trial, "fresh"), written(trial, data)
+    fresh, path = new_store(trial, "fresh"), written(trial, ahead + data)
     return trial.until_caught(attempt)
 
 

@@ -89,6 +89,13 @@ static const char *name_of(int fd, char name[PATH_MAX])
     return !found ? name : found[0] == '/' ? found + 1 : found;
 }
 
+/* The name of a file without its folder. */
+static const char *last_of(const char *path)
+{
+    const char *slash = strrchr(path, '/');
+    return slash ? slash + 1 : path;
+}
+
 /* A call that moves bytes to or from memory. */
 static ssize_t moved(const char *call, long number, int fd, void *bytes, size_t length, off_t at)
 {
@@ -127,8 +134,7 @@ int flock(int fd, int operation) { return asked("flock", SYS_flock, fd, operatio
 
 static int opened(int folder, const char *path, int flags, mode_t mode)
 {
-    const char *slash = strrchr(path, '/');
-    const char *file = slash ? slash + 1 : path;
+    const char *file = last_of(path);
     int verdict = verdict_on("open", file);
     if (verdict > 0)
         return refused("open", file, 0, 0, verdict);
@@ -161,7 +167,7 @@ int openat(int folder, const char *path, int flags, ...)
 int statx(int fd, const char *restrict path, int flags, unsigned mask, struct statx *restrict out)
 {
     char name[PATH_MAX];
-    const char *file = name_of(fd, name);
+    const char *file = *path ? last_of(path) : name_of(fd, name);
     int verdict = verdict_on("statx", file);
     if (verdict > 0)
         return refused("statx", file, 0, 0, verdict);

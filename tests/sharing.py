@@ -7,13 +7,15 @@ import contextlib
 import fcntl
 import os
 import select
+import subprocess
 
 from checking import Failed, check, expect, expect_that
 from formats import random_block
-from stores import (EXISTS, INIT, MADE, NO_STORE, SECONDS, Ended, Store, answers, files_in, finish, found, get_line, new_folder, new_store,
-                    put_line, puts_and_gets, script_of, written)
+from stores import (EXISTS, HOT, INIT, MADE, NO_STORE, SECONDS, Ended, Store, answers, files_in, finish, found, get_line,
+                    new_folder, new_store, put_line, puts_and_gets, script_of, written)
 
 LOCKED = Ended(6, b"error: disk fault\n", b"splitstore: another program uses this store\n")
+LOCKED_LOG = Ended(6, b"error: disk fault\n", b"splitstore: hot-a.log: another program uses this file\n")
 
 # A get of a block of so many bytes prints twice as many; so many gets fill a pipe of 64 KB and a buffer of 64 KB.
 LARGE, GETS = 100_000, 4
@@ -54,6 +56,51 @@ def second_program(trial):
         expect("the first program's status and standard error", (ended.status, ended.err), (0, b""))
         expect("the first program's answers", answers(ended.out), wanted)
     store.expect_found("after the first program")
+
+
+@check("a log that is linked into a second folder, by a hard or a symbolic link or `cp -al`, has one program at a time")
+def linked_logs(trial):
+    store = store_to_hold(trial)
+    log, folders = os.path.join(store.folder, HOT), []
+    for link in (os.link, os.symlink):
+        folders.append(new_folder(trial, link.__name__))
+        link(log, os.path.join(folders[-1], HOT))
+    with holding(trial, store) as (first, wanted):
+        folders.append(os.path.join(trial.folder, "snapshot"))
+        subprocess.run(["cp", "-al", store.folder, folders[-1]], check=True)
+        before = store.files()
+        for folder in folders:
+            for arguments in (["trace"], ["import"], ["info"], INIT):
+                expect(f"{arguments[0]} on the log of a store in use", trial.program.run(folder, *arguments), LOCKED_LOG)
+        expect("the files of the store in use", store.files(), before)
+        ended = finish(first)
+        expect("the first program's status and answers", (ended.status, answers(ended.out)), (0, wanted))
+    for folder in folders:
+        Store(trial.program, folder, store.blocks).expect_found("through a link")
+
+
+@check("two programs that only read share a store and its log, and one that writes is refused beside them, as they are beside it")
+def readers_share(trial):
+    store = new_store(trial).put(random_block(trial.random, 10))
+    wanted = store.info()
+    expect("the status of info", wanted.status, 0)
+    locks = [os.open(path, os.O_RDONLY) for path in (store.folder, os.path.join(store.folder, HOT))]
+    try:
+        for descriptor in locks:
+            fcntl.flock(descriptor, fcntl.LOCK_SH | fcntl.LOCK_NB)
+        expect("info beside a program that reads", store.info(), wanted)
+        expect("trace beside it", store.trace("0 open\n"), LOCKED)
+        fcntl.flock(locks[0], fcntl.LOCK_UN)
+        expect("info beside a program that reads the log", store.info(), wanted)
+        expect("trace beside that", store.trace("0 open\n"), LOCKED_LOG)
+        fcntl.flock(locks[1], fcntl.LOCK_EX | fcntl.LOCK_NB)
+        expect("info beside a program that writes the log", store.info(), LOCKED_LOG)
+        fcntl.flock(locks[0], fcntl.LOCK_EX | fcntl.LOCK_NB)
+        expect("info beside a program that writes the store", store.info(), LOCKED)
+    finally:
+        for descriptor in locks:
+            os.close(descriptor)
+    store.expect_found("after programs that shared it")
 
 
 @check("what does not need the disk runs beside a program that uses the store")

@@ -1,6 +1,7 @@
 """Runs of the program, stores in folders, and scripts."""
 import dataclasses
 import os
+import re
 import shutil
 import subprocess
 
@@ -17,12 +18,19 @@ FILES = ["hot-a.log", "hot-b.log", "cold-a.log", "cold-b.log", "meta.log", "move
 HOT = FILES[0]
 
 
+# The lines of standard error that say which call of the system failed, or that the store is in use.
+FAILURE = re.compile(rb"splitstore: (\.|[a-z-]+\.log|standard (input|output)): (open|lock|size|read|write|sync|flush): "
+                     rb"|splitstore: ([a-z-]+\.log: )?another program uses this (store|file)$")
+
+
 @dataclasses.dataclass(frozen=True)
 class Ended:
-    """How a run ended: its status, negative for a signal, and what it wrote."""
+    """How a run ended: its status, negative for a signal, and what it wrote. `why` is what standard error says of the last
+    line of standard output, which tests/reasons.py tries; `err` is the rest."""
     status: int
     out: bytes
     err: bytes
+    why: bytes = dataclasses.field(default=b"", compare=False)
 
 
 MADE = Ended(0, b"store made\n", b"")
@@ -31,7 +39,8 @@ NO_STORE = Ended(7, b"error: no store\n", b"")
 
 
 class Program:
-    """The built program."""
+    """The built program. Its runs say in words on standard error what their last line says in numbers."""
+    says_why = True
 
     def __init__(self, path, environment=None):
         self.path = path
@@ -39,7 +48,7 @@ class Program:
 
     def with_environment(self, **variables):
         """The same program, with these environment variables too."""
-        return Program(self.path, {**self.environment, **variables})
+        return type(self)(self.path, {**self.environment, **variables})
 
     def start(self, folder, *arguments, before=(), **streams):
         """Starts a run in a folder. `before` has what the new process does just before the program begins."""
@@ -47,7 +56,9 @@ class Program:
             for each in before:
                 each()
         streams = {"stdin": subprocess.DEVNULL, "stdout": subprocess.PIPE, "stderr": subprocess.PIPE, **streams}
-        return subprocess.Popen([self.path, *arguments], cwd=folder, env=self.environment, preexec_fn=prepare, **streams)
+        process = subprocess.Popen([self.path, *arguments], cwd=folder, env=self.environment, preexec_fn=prepare, **streams)
+        process.says_why = self.says_why
+        return process
 
     def run(self, folder, *arguments, script="", before=()):
         """Runs the program in a folder, with a script, or bytes, as its standard input."""
@@ -56,7 +67,11 @@ class Program:
     def run_on(self, path, folder, *arguments):
         """Runs the program in a folder, with a file as its standard input."""
         with open(path, "rb") as file:
-            return finish(self.start(folder, *arguments, stdin=file))
+            return self.finish_on(file, folder, *arguments)
+
+    def finish_on(self, file, folder, *arguments):
+        """Runs the program in a folder, with an open file as its standard input, from where that stands."""
+        return finish(self.start(folder, *arguments, stdin=file))
 
 
 def as_bytes(text):
@@ -72,7 +87,11 @@ def finish(process, script=""):
         process.kill()
         process.communicate()
         raise Failed(f"{process.args} had not ended after {SECONDS} seconds") from None
-    return Ended(process.returncode, out or b"", err or b"")
+    lines = (err or b"").splitlines(keepends=True)
+    says_why = getattr(process, "says_why", True)
+    reasons = [line for line in lines if says_why and line.startswith(b"splitstore: ") and not FAILURE.match(line.rstrip(b"\n"))]
+    rest = [line for line in lines if line not in reasons]
+    return Ended(process.returncode, out or b"", b"".join(rest), b"".join(reasons))
 
 
 def closing(*descriptors):

@@ -153,6 +153,8 @@ def failed_lock(trial):
     for folder, arguments in ((store.folder, ["trace"]), (store.folder, INIT), (empty, INIT)):
         ended, _ = run(trial, folder, *arguments, rules=[("flock", ".", 1, errno.ENOLCK)])
         expect(f"{arguments[0]} without a lock", ended, disk_fault(".", "lock", errno.ENOLCK))
+    ended, _ = run(trial, store.folder, "trace", rules=[("flock", HOT, 1, errno.ENOLCK)])
+    expect("trace without a lock of the log", ended, disk_fault(HOT, "lock", errno.ENOLCK))
     expect("the files of the store", store.files(), before)
     expect("the files of the empty folder", files_in(empty), {})
 

@@ -4,9 +4,9 @@ use Rattle.std.specs.Prelude.{IsTrue}
 use Rattle.std.specs.List.{list_any}
 use Rattle.std.proofs.lemmas.List.{append-nil}
 use Rattle.ss_io.specs.Streams.{AppendsFront}
-use Rattle.ss_disk.specs.declared.disk.Disk.{Ghosts}
-use Rattle.ss_disk.specs.Disk.{Same}
-use Rattle.ss_disk.specs.Calls.{Goes}
+use Rattle.ss_device.specs.declared.disk.Disk.{Ghosts}
+use Rattle.ss_device.specs.Disk.{Same}
+use Rattle.ss_device.specs.Calls.{Goes}
 use Rattle.ss_open.specs.declared.fault.OpenFault.{OpenFault}
 use Rattle.ss_open.specs.declared.fault.OpenFault.TheVariants as opening
 use Rattle.ss_open.specs.Opening.{Opened, Opens}
@@ -18,16 +18,17 @@ use Rattle.ss_app.specs.declared.ending.Ending.{Ending}
 use Rattle.ss_app.specs.declared.ending.Ending.TheVariants.{Done, NoMemory, BadScript}
 use Rattle.ss_app.specs.declared.ending.Ending.TheVariants as ends
 use Rattle.ss_app.specs.Ending.{line_of, status_of, ending_of_open}
-use Rattle.ss_history.specs.Story.{IsFulfilled, faults_in, is_refused, IsLegalFrom}
-use Rattle.ss_app.specs.Outcome.{Reads, Traced, CallsMade, HasReason, CountsSource, CountsDisk, IsWhole, IsValidTrace}
+use Rattle.ss_history.specs.Story.{IsFulfilled, faults_in, is_refused, IsLegalFrom, IsLeft, state_behind}
+use Rattle.ss_app.specs.Outcome.{Reads, Traced, CallsMade, HasReason, CountsSource, CountsDisk, IsWhole, IsValidTrace, HavePlaceOn}
 use Rattle.ss_app.specs.World.{Says}
 use Rattle.ss_script.specs.Views.{no_views}
 use Rattle.ss_app.specs.Progress.{InOrder}
 use Rattle.ss_app.specs.World.{World}
 use Rattle.ss_app.proofs.Appending.{front_of_more, front_whole}
-use Rattle.ss_history.proofs.Fulfilled.{fulfilled, no_faults, err_or_ok, oks}
+use Rattle.ss_history.proofs.Fulfilled.{fulfilled, no_faults, err_or_ok}
 use Rattle.ss_app.proofs.Sayings.{says_behind, none_counted}
 use Rattle.ss_history.proofs.Still.{same_disk, same_touches}
+use Rattle.ss_core.proofs.Reopened.{same_state}
 
 is_whole : (ending : Ending) (unprinted : List ℕ) → (ending ≡ Done → unprinted ≡ []) → (ending ≡ Done) ⊎ (ending ≡ NoMemory) → IsWhole ending unprinted
 is_whole ending unprinted whole (inl done) = subst (λ e. IsWhole e unprinted) (sym done) (whole done)
@@ -54,14 +55,14 @@ too_many n most more few = omega (arith, more, few)
 module _ {D : Type 0} (disk : Ghosts D) (old new : World D) (status : ℕ) where
   -- a run that made no call
   no_call : (ending : Ending) → Goes disk Same old.disk new.disk → HasReason disk old new [] ending → CountsSource ending old.source.faults new.source.faults → CountsDisk ending [] (disk.faults old.disk) (disk.faults new.disk)
-      → ((script : List ℕ) (lines : List Line) → IsValidTrace disk old new script lines → (ending ≡ NoMemory) ⊎ ((ending ≡ Done) × IsFulfilled []))
+      → ((script : List ℕ) (lines : List Line) → IsValidTrace disk old new script lines → (ending ≡ NoMemory) ⊎ ((ending ≡ Done) × (HavePlaceOn (disk.files old.disk) [] → IsFulfilled [])))
       → Says old.sink new.sink (line_of ending) (status_of ending) status → Traced disk old new status
   no_call ending goes reason source faults valid said = record {
     ending = ending;
     history = [];
     printed = [];
     unprinted = [];
-    is_history = record { legal = λ _. inl refl; rooms = (65536, (omega arith, omega arith), tt); touches = same_touches disk old.disk new.disk goes; still = λ _. goes };
+    is_history = record { legal = λ _. inl refl; rooms = (65536, (omega arith, omega arith), tt); touches = same_touches disk old.disk new.disk goes; keeps = λ told _. same_state disk old.disk new.disk goes told; still = λ _. goes };
     text_is = refl;
     whole = whole_of_none ending;
     reason = reason;
@@ -104,10 +105,10 @@ module _ {D : Type 0} (disk : Ghosts D) (old new : World D) (status : ℕ) where
   pub store_refused : (lines : List Line) (fault : OpenFault) → Reads old.source new.source (Ok lines) → (IsTrue disk.told → Opened disk old.disk (Err (fault, new.disk))) → Opens {disk = disk} old.disk (Err (fault, new.disk))
       → Says old.sink new.sink (line_of (ending_of_open fault)) (status_of (ending_of_open fault)) status → Traced disk old new status
   store_refused lines opening.NoStore read told opens said = no_call ends.NoStore opens.goes (refl, (lines, read.1), told) read.2 (none_counted _ _ opens.counts)
-      (λ script asked valid. let stands = valid.stands.2 in absurd (told valid.tells stands.settings stands.half.committed)) said
+      (λ script asked valid. let stands = valid.stands.1 in absurd (told valid.tells stands.settings stands.half.committed)) said
   store_refused lines opening.StoreExists read told opens said = absurd (opens.errors opening.StoreExists new.disk refl)
-  store_refused lines (opening.Damaged file at) read told opens said = no_call (ends.Damaged file at) opens.goes (refl, (lines, read.1), opens.errors (opening.Damaged file at) new.disk refl, λ t. (told t).1) read.2 (none_counted _ _ opens.counts)
-      (λ script asked valid. absurd (stands_apart _ at _ _ (told valid.tells).1 valid.stands.2)) said
+  store_refused lines (opening.Damaged file at) read told opens said = no_call (ends.Damaged file at) opens.goes (refl, (lines, read.1), opens.errors (opening.Damaged file at) new.disk refl, told) read.2 (none_counted _ _ opens.counts)
+      (λ script asked valid. absurd (stands_apart (disk.files old.disk) file at _ (told valid.tells) valid.stands.1)) said
   store_refused lines opening.DiskFault read told opens said = no_call ends.DiskFault opens.goes (refl, (lines, read.1)) read.2 opens.counts
       (λ script asked valid. absurd (valid.faults opens.counts)) said
   store_refused lines opening.NoMemory read told opens said = no_memory opens.goes read.2 opens.counts said
@@ -136,19 +137,14 @@ module _ {D : Type 0} (disk : Ghosts D) (old new : World D) (status : ℕ) where
 
     -- a valid run that made its calls was not refused any, but out of memory
     made_complete : (mid : _) (ending : Ending) (refused : Bool) (m : CallsMade disk old.disk new.disk lines old.sink mid ending refused) → (ending ≡ Done) ⊎ (ending ≡ NoMemory)
-        → (script : List ℕ) (asked : List Line) → IsValidTrace disk old new script asked → (ending ≡ NoMemory) ⊎ ((ending ≡ Done) × IsFulfilled m.history)
+        → (script : List ℕ) (asked : List Line) → IsValidTrace disk old new script asked → (ending ≡ NoMemory) ⊎ ((ending ≡ Done) × (HavePlaceOn (disk.files old.disk) m.history → IsFulfilled m.history))
     made_complete mid ending refused m (inr none) script asked valid = inl none
     made_complete mid ending refused m (inl done) script asked valid =
-        inr (done, inl (by (m.is_history.legal valid.tells)))
+        inr (done, λ place. inl (by place (m.is_history.legal valid.tells)))
       where
-        asked_is : asked ≡ m.made
-        asked_is = oks asked m.made (sym valid.asks.1 ∙ (read.1 script valid.told).1 ∙ ap Ok (m.lines_are ∙ ap (λ l. m.made ++ l) (m.all_made done) ∙ append-nil m.made))
-
-        by : (m.history ≡ []) ⊎ IsLegalFrom disk old.disk new.disk m.history → list_any is_refused m.history ≡ false
-        by (inl none) = subst (λ h. list_any is_refused h ≡ false) (sym none) refl
-        by (inr l) = fulfilled l.state l.end m.history l.legal l.rooms
-            (valid.place l.state l.end m.history l.stands (subst (λ ls. InOrder no_views ls m.history) (sym asked_is) m.in_order) l.legal)
-            (no_faults (disk.faults old.disk) (disk.faults new.disk) (faults_in m.history) m.faults.enough valid.faults)
+        by : HavePlaceOn (disk.files old.disk) m.history → (m.history ≡ []) ⊎ ((from : IsLegalFrom (disk.files old.disk) m.history) × IsLeft disk new.disk (state_behind from) from.doubt) → list_any is_refused m.history ≡ false
+        by place (inl none) = subst (λ h. list_any is_refused h ≡ false) (sym none) refl
+        by place (inr l) = fulfilled l.0.state m.history l.0.legal (place l.0.state l.0.stands) (no_faults (disk.faults old.disk) (disk.faults new.disk) (faults_in m.history) m.faults.enough valid.faults)
 
     -- a run that made calls, and wrote how it ended
     pub traced : (mid : _) (ending : Ending) → CallsMade disk old.disk new.disk lines old.sink mid ending false → Says mid new.sink (line_of ending) (status_of ending) status → Traced disk old new status

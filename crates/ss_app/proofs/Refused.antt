@@ -1,17 +1,17 @@
 -- Which statuses a run comes to, where the script is good: what is wrong with the store, or nothing.
 use Rattle.std.proofs.Common.{◌≡◌, ◌⊎◌, inl, inr, ⊎_elim, ℕ, min, ◌+◌, ◌-◌, ◌^◌, ◌<◌, ◌≤◌, Bool, List, [], Some, Result, Ok, Err, refl, sym, ap, ◌∙◌, subst, arith}
 use Rattle.std.specs.Prelude.{IsTrue}
-use Rattle.ss_disk.specs.Disk.{Rose}
-use Rattle.ss_disk.specs.declared.disk.Disk.{Ghosts}
+use Rattle.ss_device.specs.Disk.{Rose}
+use Rattle.ss_device.specs.declared.disk.Disk.{Ghosts}
 use Rattle.ss_records.specs.declared.record.Config.{Config as Settings}
-use Rattle.ss_hot.specs.Half.{HasSettings}
+use Rattle.ss_device.specs.Disk.{Files}
 use Rattle.ss_model.specs.declared.call.Entry.{Entry}
 use Rattle.ss_app.specs.declared.TheConstants.{SCRIPT_BYTES}
 use Rattle.ss_script.specs.declared.line.Line.{Line}
 use Rattle.ss_app.specs.declared.ending.Ending.{Ending}
 use Rattle.ss_app.specs.declared.ending.Ending.TheVariants as ends
 use Rattle.ss_app.specs.Ending.{status_of, ending_of_open, ending_of_outcome}
-use Rattle.ss_open.specs.Opening.{HasNoStore, IsDamagedStore, Opens}
+use Rattle.ss_open.specs.Opening.{IsCommitted, HasNoStore, IsDamagedStore, Opens}
 use Rattle.ss_open.specs.declared.fault.OpenFault.{OpenFault}
 use Rattle.ss_open.specs.declared.fault.OpenFault.TheVariants as opening
 use Rattle.ss_import.specs.Import.{CountsSource as SourceOfImport}
@@ -38,12 +38,12 @@ too_many : (n most : ℕ) → most < n → n ≤ most → ⊥
 too_many n most more few = omega (arith, more, few)
 
 -- a damaged store has settings
-pub committed_of : (file : List ℕ) (at : ℕ) → IsDamagedStore file at → (settings : Settings) × HasSettings file settings
-committed_of file at (inl half) = (half.settings, half.committed)
-committed_of file at (inr many) = (many.0.0, many.0.2.committed)
+pub committed_of : (files : Files) (file at : ℕ) → IsDamagedStore files file at → (settings : Settings) × IsCommitted files settings
+committed_of files file at (is, inl half) = (half.settings, half.committed)
+committed_of files file at (is, inr many) = (many.0.0, many.0.2.committed)
 
 module _ {D : Type 0} (disk : Ghosts D) (old new : World D) (h : List Entry) (told : IsTrue disk.told) where
-  seven : (e : Ending) → status_of e ≡ 7 → HasReason disk old new h e → HasNoStore (disk.files old.disk 0)
+  seven : (e : Ending) → status_of e ≡ 7 → HasReason disk old new h e → HasNoStore (disk.files old.disk)
   seven ends.Done is7 reason = absurd (cc)
   seven (ends.Usage word) is7 reason = absurd (cc)
   seven ends.NoMemory is7 reason = absurd (cc)
@@ -58,7 +58,7 @@ module _ {D : Type 0} (disk : Ghosts D) (old new : World D) (h : List Entry) (to
   seven (ends.Imported imported) is7 reason = absurd reason
   seven (ends.Informed info) is7 reason = absurd reason
 
-  eight : (e : Ending) → status_of e ≡ 8 → HasReason disk old new h e → (at : ℕ) × IsDamagedStore (disk.files old.disk 0) at
+  eight : (e : Ending) → status_of e ≡ 8 → HasReason disk old new h e → (file at : ℕ) × IsDamagedStore (disk.files old.disk) file at
   eight ends.Done is8 reason = absurd (cc)
   eight (ends.Usage word) is8 reason = absurd (cc)
   eight ends.NoMemory is8 reason = absurd (cc)
@@ -66,42 +66,42 @@ module _ {D : Type 0} (disk : Ghosts D) (old new : World D) (h : List Entry) (to
   eight ends.DiskFault is8 reason = absurd (cc)
   eight ends.NoStore is8 reason = absurd (cc)
   eight ends.StoreExists is8 reason = absurd reason
-  eight (ends.Damaged file at) is8 reason = (at, reason.3 told)
+  eight (ends.Damaged file at) is8 reason = (file, at, reason.3 told)
   eight (ends.BadScript line kind) is8 reason = absurd (cc)
   eight ends.TooLong is8 reason = absurd (cc)
   eight (ends.NotImported fault) is8 reason = absurd reason
   eight (ends.Imported imported) is8 reason = absurd reason
   eight (ends.Informed info) is8 reason = absurd reason
 
-  from_none : (script : List ℕ) (lines : List Line) (e : Ending) → old.source.left ≡ Some script → AsksFor script lines → HasReason disk old new h e → HasNoStore (disk.files old.disk 0) → (status_of e ≡ 7) ⊎ IsFreeOfDisk (status_of e)
-  from_none script lines ends.Done known asks reason none = let stands = (reason.1 told).2 in absurd (none stands.settings stands.half.committed)
+  from_none : (script : List ℕ) (lines : List Line) (e : Ending) → old.source.left ≡ Some script → AsksFor script lines → HasReason disk old new h e → HasNoStore (disk.files old.disk) → (status_of e ≡ 7) ⊎ IsFreeOfDisk (status_of e)
+  from_none script lines ends.Done known asks reason none = let stands = (reason.1 told).1 in absurd (none stands.settings stands.half.committed)
   from_none script lines (ends.Usage word) known asks reason none = absurd reason
   from_none script lines ends.NoMemory known asks reason none = inr (inl (inl refl))
   from_none script lines ends.ReadFault known asks reason none = inr (inl (inr (inl refl)))
   from_none script lines ends.DiskFault known asks reason none = inr (inr refl)
   from_none script lines ends.NoStore known asks reason none = inl refl
   from_none script lines ends.StoreExists known asks reason none = absurd reason
-  from_none script lines (ends.Damaged file at) known asks reason none = let found = committed_of _ at (reason.3 told) in absurd (none found.0 found.1)
+  from_none script lines (ends.Damaged file at) known asks reason none = let found = committed_of (disk.files old.disk) file at (reason.3 told) in absurd (none found.0 found.1)
   from_none script lines (ends.BadScript line kind) known asks reason none = absurd (err_or_ok _ _ _ (reason.1 script known).1 asks.1)
   from_none script lines ends.TooLong known asks reason none = absurd (too_many _ SCRIPT_BYTES (reason.1 script known) asks.0)
   from_none script lines (ends.NotImported fault) known asks reason none = absurd reason
   from_none script lines (ends.Imported imported) known asks reason none = absurd reason
   from_none script lines (ends.Informed info) known asks reason none = absurd reason
 
-  from_damaged : (script : List ℕ) (lines : List Line) (at : ℕ) (e : Ending) → old.source.left ≡ Some script → AsksFor script lines → HasReason disk old new h e → IsDamagedStore (disk.files old.disk 0) at → (status_of e ≡ 8) ⊎ IsFreeOfDisk (status_of e)
-  from_damaged script lines at ends.Done known asks reason damaged = let stands = (reason.1 told).2 in absurd (stands_apart _ at _ _ damaged stands)
-  from_damaged script lines at (ends.Usage word) known asks reason damaged = absurd reason
-  from_damaged script lines at ends.NoMemory known asks reason damaged = inr (inl (inl refl))
-  from_damaged script lines at ends.ReadFault known asks reason damaged = inr (inl (inr (inl refl)))
-  from_damaged script lines at ends.DiskFault known asks reason damaged = inr (inr refl)
-  from_damaged script lines at ends.NoStore known asks reason damaged = let found = committed_of _ at damaged in absurd (reason.2 told found.0 found.1)
-  from_damaged script lines at ends.StoreExists known asks reason damaged = absurd reason
-  from_damaged script lines at (ends.Damaged file place) known asks reason damaged = inl refl
-  from_damaged script lines at (ends.BadScript line kind) known asks reason damaged = absurd (err_or_ok _ _ _ (reason.1 script known).1 asks.1)
-  from_damaged script lines at ends.TooLong known asks reason damaged = absurd (too_many _ SCRIPT_BYTES (reason.1 script known) asks.0)
-  from_damaged script lines at (ends.NotImported fault) known asks reason damaged = absurd reason
-  from_damaged script lines at (ends.Imported imported) known asks reason damaged = absurd reason
-  from_damaged script lines at (ends.Informed info) known asks reason damaged = absurd reason
+  from_damaged : (script : List ℕ) (lines : List Line) (file at : ℕ) (e : Ending) → old.source.left ≡ Some script → AsksFor script lines → HasReason disk old new h e → IsDamagedStore (disk.files old.disk) file at → (status_of e ≡ 8) ⊎ IsFreeOfDisk (status_of e)
+  from_damaged script lines file at ends.Done known asks reason damaged = let stands = (reason.1 told).1 in absurd (stands_apart (disk.files old.disk) file at _ damaged stands)
+  from_damaged script lines file at (ends.Usage word) known asks reason damaged = absurd reason
+  from_damaged script lines file at ends.NoMemory known asks reason damaged = inr (inl (inl refl))
+  from_damaged script lines file at ends.ReadFault known asks reason damaged = inr (inl (inr (inl refl)))
+  from_damaged script lines file at ends.DiskFault known asks reason damaged = inr (inr refl)
+  from_damaged script lines file at ends.NoStore known asks reason damaged = let found = committed_of (disk.files old.disk) file at damaged in absurd (reason.2 told found.0 found.1)
+  from_damaged script lines file at ends.StoreExists known asks reason damaged = absurd reason
+  from_damaged script lines file at (ends.Damaged other place) known asks reason damaged = inl refl
+  from_damaged script lines file at (ends.BadScript line kind) known asks reason damaged = absurd (err_or_ok _ _ _ (reason.1 script known).1 asks.1)
+  from_damaged script lines file at ends.TooLong known asks reason damaged = absurd (too_many _ SCRIPT_BYTES (reason.1 script known) asks.0)
+  from_damaged script lines file at (ends.NotImported fault) known asks reason damaged = absurd reason
+  from_damaged script lines file at (ends.Imported imported) known asks reason damaged = absurd reason
+  from_damaged script lines file at (ends.Informed info) known asks reason damaged = absurd reason
 
 -- a status that is five is neither of the others
 pub not_five : (status n : ℕ) → (n ≡ 7) ⊎ (n ≡ 8) → status ≡ 5 → status ≡ n → ⊥
@@ -112,18 +112,18 @@ pub free_five : (status : ℕ) → status ≡ 5 → IsFreeOfDisk status
 free_five status five = inl (inr (inr five))
 
 pub refuses_store : {D : Type 0} (disk : Ghosts D) (old new : World D) (status : ℕ) (script : List ℕ) (lines : List Line)
-    → Traced disk old new status → old.source.left ≡ Some script → AsksFor script lines → IsTrue disk.told → RefusesStore (disk.files old.disk 0) status
+    → Traced disk old new status → old.source.left ≡ Some script → AsksFor script lines → IsTrue disk.told → RefusesStore (disk.files old.disk) status
 refuses_store disk old new status script lines t known asks told =
     let said = own_or_five _ _ _ _ _ t.said in
     record {
       no_store = λ e. ⊎_elim (λ own. seven disk old new t.history told t.ending (sym own.0 ∙ e) t.reason) (λ five. absurd (not_five status 7 (inl refl) five.0 e)) said;
       damaged = λ e. ⊎_elim (λ own. eight disk old new t.history told t.ending (sym own.0 ∙ e) t.reason) (λ five. absurd (not_five status 8 (inr refl) five.0 e)) said;
       from_none = λ none. ⊎_elim (λ own. subst (λ n. (n ≡ 7) ⊎ IsFreeOfDisk n) (sym own.0) (from_none disk old new t.history told script lines t.ending known asks t.reason none)) (λ five. inr (free_five status five.0)) said;
-      from_damaged = λ at damaged. ⊎_elim (λ own. subst (λ n. (n ≡ 8) ⊎ IsFreeOfDisk n) (sym own.0) (from_damaged disk old new t.history told script lines at t.ending known asks t.reason damaged)) (λ five. inr (free_five status five.0)) said;
+      from_damaged = λ file at damaged. ⊎_elim (λ own. subst (λ n. (n ≡ 8) ⊎ IsFreeOfDisk n) (sym own.0) (from_damaged disk old new t.history told script lines file at t.ending known asks t.reason damaged)) (λ five. inr (free_five status five.0)) said;
     }
 
 module _ {D : Type 0} (disk : Ghosts D) (old new : World D) (settings : Settings) (told : IsTrue disk.told) where
-  exists_of : (e : Ending) → status_of e ≡ 7 → HasInitReason disk old.disk new.disk settings e → (committed : Settings) × HasSettings (disk.files old.disk 0) committed
+  exists_of : (e : Ending) → status_of e ≡ 7 → HasInitReason disk old.disk new.disk settings e → (committed : Settings) × IsCommitted (disk.files old.disk) committed
   exists_of ends.Done is7 reason = absurd (cc)
   exists_of (ends.Usage word) is7 reason = absurd reason
   exists_of ends.NoMemory is7 reason = absurd (cc)
@@ -138,7 +138,7 @@ module _ {D : Type 0} (disk : Ghosts D) (old new : World D) (settings : Settings
   exists_of (ends.Imported imported) is7 reason = absurd reason
   exists_of (ends.Informed info) is7 reason = absurd reason
 
-  from_store : (e : Ending) (committed : Settings) → HasSettings (disk.files old.disk 0) committed → HasInitReason disk old.disk new.disk settings e → (status_of e ≡ 7) ⊎ IsFreeOfDisk (status_of e)
+  from_store : (e : Ending) (committed : Settings) → IsCommitted (disk.files old.disk) committed → HasInitReason disk old.disk new.disk settings e → (status_of e ≡ 7) ⊎ IsFreeOfDisk (status_of e)
   from_store ends.Done committed has reason = absurd ((reason told).0 committed has)
   from_store (ends.Usage word) committed has reason = absurd reason
   from_store ends.NoMemory committed has reason = inr (inl (inl refl))
@@ -153,7 +153,7 @@ module _ {D : Type 0} (disk : Ghosts D) (old new : World D) (settings : Settings
   from_store (ends.Imported imported) committed has reason = absurd reason
   from_store (ends.Informed info) committed has reason = absurd reason
 
-  made_or_not : (e : Ending) → HasNoStore (disk.files old.disk 0) → ¬ Rose (disk.faults old.disk) (disk.faults new.disk) → CountsDisk e [] (disk.faults old.disk) (disk.faults new.disk) → HasInitReason disk old.disk new.disk settings e → (status_of e ≡ 0) ⊎ (status_of e ≡ 3)
+  made_or_not : (e : Ending) → HasNoStore (disk.files old.disk) → ¬ Rose (disk.faults old.disk) (disk.faults new.disk) → CountsDisk e [] (disk.faults old.disk) (disk.faults new.disk) → HasInitReason disk old.disk new.disk settings e → (status_of e ≡ 0) ⊎ (status_of e ≡ 3)
   made_or_not ends.Done none sound counts reason = inl refl
   made_or_not (ends.Usage word) none sound counts reason = absurd reason
   made_or_not ends.NoMemory none sound counts reason = inr refl
@@ -169,7 +169,7 @@ module _ {D : Type 0} (disk : Ghosts D) (old new : World D) (settings : Settings
   made_or_not (ends.Informed info) none sound counts reason = absurd reason
 
 pub refuses_init : {D : Type 0} (disk : Ghosts D) (old new : World D) (settings : Settings) (status : ℕ)
-    → Inited disk old new settings status → IsTrue disk.told → RefusesInit (disk.files old.disk 0) status
+    → Inited disk old new settings status → IsTrue disk.told → RefusesInit (disk.files old.disk) status
 refuses_init disk old new settings status i told =
     let said = own_or_five _ _ _ _ _ i.said in
     record {

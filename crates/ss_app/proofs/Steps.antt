@@ -4,8 +4,8 @@ use Rattle.std.specs.Io.KnownBytes.{Appends}
 use Rattle.std.proofs.lemmas.List.{append-nil}
 use Rattle.std.specs.Prelude.{OnOk}
 use Rattle.ss_cid.specs.declared.memory.NoMemory as no_memory
-use Rattle.ss_disk.specs.declared.disk.Disk.{Ghosts}
-use Rattle.ss_disk.specs.Disk.{Rose}
+use Rattle.ss_device.specs.declared.disk.Disk.{Ghosts}
+use Rattle.ss_device.specs.Disk.{Rose}
 use Rattle.ss_model.specs.declared.call.Answer.{Answer}
 use Rattle.ss_model.specs.declared.call.Entry.{Entry}
 use Rattle.ss_core.specs.declared.split_core.SplitCore.{SplitCore}
@@ -132,7 +132,7 @@ module _ {D : Type 0} {disk : Ghosts D} (was : D) where
     left = left;
     is_history = history_of was core cut.history cut.story;
     faults = cut.story.counted;
-    stands = λ t. let p = cut.story.told t in (p.state, p.end, p.stands);
+    stands = λ t. let p = cut.story.told t in (p.0.state, p.0.stands);
     ends = inr refl;
     lines_are = are;
     all_made = λ e. absurd (cc);
@@ -154,7 +154,7 @@ module _ {D : Type 0} {disk : Ghosts D} (was : D) where
     left = [];
     is_history = history_of was core p.history p.story;
     faults = p.story.counted;
-    stands = λ t. let told = p.story.told t in (told.state, told.end, told.stands);
+    stands = λ t. let told = p.story.told t in (told.0.state, told.0.stands);
     ends = inl refl;
     lines_are = are ∙ sym (append-nil made);
     all_made = λ _. refl;

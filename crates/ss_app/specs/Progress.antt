@@ -1,6 +1,6 @@
 -- The entries of a run of `trace`, and how far it has come: what they left of the store, and what was printed of them.
 use Rattle.std.specs.{Prelude.{◌≡◌, ℕ, Bool, true, false, List, [], ◌∷◌, ◌++◌, length, Result, Ok, Err}, Io.KnownBytes.Appends}
-use Rattle.ss_disk.specs.{declared.disk.Disk.Ghosts, Disk.Rose}
+use Rattle.ss_device.specs.{declared.disk.Disk.Ghosts, Disk.Rose}
 use Rattle.ss_model.specs.declared.call.Entry.{Entry}
 use Rattle.ss_core.specs.declared.split_core.SplitCore.{SplitCore}
 use Rattle.ss_script.specs.{declared.line.Line.Line, Text.text, Views.{no_views, after_line, client_views, resolved}}

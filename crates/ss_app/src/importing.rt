@@ -4,7 +4,7 @@ ghost use Rattle.ss_app.specs.World.{world};
 
 use crate::ending::Ending;
 use crate::run::{Exit, finish};
-use ss_disk::Disk;
+use ss_device::Disk;
 use ss_import::import;
 use ss_io::{Sink, Source};
 use ss_open::open;

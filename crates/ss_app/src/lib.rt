@@ -1,8 +1,8 @@
 //! The program as a library: what the words of the command line ask for, over any source, sink and disk.
 //!
 //! Contracts see a run as a source, a sink and a disk before it and after it (`specs/World.antt`), the words, and the
-//! status. Of `trace` it comes to a history of `ss_model` and an ending. The history is legal from the state that the file
-//! of the hot log had (`HasState` of `ss_core`), its entries are the lines of the script, each once, in order
+//! status. Of `trace` it comes to a history of `ss_model` and an ending. The history is legal from the state that the files
+//! had (`HasState` of `ss_core`), its entries are the lines of the script, each once, in order
 //! (`specs/Progress.antt`), and its text is one line an entry (`Text.antt` of `ss_script`). The ending has a status and a last
 //! line (`specs/Ending.antt`).
 //!
@@ -21,6 +21,7 @@
 mod ending;
 mod help;
 mod importing;
+pub mod laws;
 mod run;
 mod words;
 

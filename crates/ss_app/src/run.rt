@@ -5,18 +5,17 @@ ghost use Rattle.ss_car.specs.Car.{Section};
 ghost use Rattle.ss_records.specs.declared.record.Config.{Config as Settings};
 ghost use Rattle.ss_records.specs.Record.{SettingsFit};
 ghost use Rattle.ss_io.specs.Streams.{HasCause, PutAppends};
-ghost use Rattle.ss_records.specs.declared.record.Record.{Record};
 ghost use Rattle.ss_model.specs.State.{State};
 ghost use Rattle.ss_model.specs.declared.call.Entry.{Entry};
 ghost use Rattle.ss_script.specs.declared.line.Line.{Line};
 ghost use Rattle.ss_script.specs.Text.{entry_text};
 ghost use Rattle.ss_script.specs.Views.{client_views, resolved};
 ghost use Rattle.ss_core.specs.Calls.{Steps, Makes};
-ghost use Rattle.ss_core.specs.StandsFor.{StandsFor};
+ghost use Rattle.ss_core.specs.StandsFor.{Doubt, StandsFor};
 ghost use Rattle.ss_app.specs.declared.words.Command.TheVariants as command;
 ghost use Rattle.ss_app.specs.Ending.{status_of, line_of};
 ghost use Rattle.ss_app.specs.Outcome.{Reads, CallsMade, Traced, Inited, Ran, TellsFaults, RefusesScript, RefusesStore, RefusesInit, IsValidTrace, IsValidInit, AsksFor};
-ghost use Rattle.ss_app.specs.Outcome.{IsValidImport, IsValidInfo};
+ghost use Rattle.ss_app.specs.Outcome.{IsValidImport, IsValidInfo, IsDoneOrFull};
 ghost use Rattle.ss_app.specs.Progress.{PrintsUnless, Progress, Stepped};
 ghost use Rattle.ss_history.specs.Story.{Story};
 ghost use Rattle.ss_app.specs.Words.{command_of};
@@ -29,7 +28,7 @@ use crate::importing::{run_import, run_info};
 use crate::words::{Command, command_of};
 use ss_cid::NoMemory;
 use ss_core::SplitCore;
-use ss_disk::Disk;
+use ss_device::Disk;
 use ss_io::{Failed, Sink, Source, read_all};
 use ss_model::Entry;
 use ss_open::{init, open};
@@ -94,13 +93,13 @@ pub fn run_alone<S: Source, K: Sink, D: Disk>(
     // The refusals come just where the words, the script and the files call for them, but for out of memory and faults.
     ensures usage { (result.status ≡ 2 → IsErr (command_of (map string_bytes words.now))) × (IsErr (command_of (map string_bytes words.now)) → (result.status ≡ 2) ⊎ (result.status ≡ 5)) }
     ensures script { (script : List ℕ) → command_of (map string_bytes words.now) ≡ Ok command.Trace → S.left source.old ≡ Some script → RefusesScript script result.status }
-    ensures store { (script : List ℕ) (lines : List Line) → command_of (map string_bytes words.now) ≡ Ok command.Trace → S.left source.old ≡ Some script → AsksFor script lines → IsTrue D.told → RefusesStore (D.files disk 0) result.status }
-    ensures import_store { (head : Bool) → command_of (map string_bytes words.now) ≡ Ok (command.Import head) → IsTrue D.told → RefusesStore (D.files disk 0) result.status }
-    ensures info_store { command_of (map string_bytes words.now) ≡ Ok command.Info → IsTrue D.told → RefusesStore (D.files disk 0) result.status }
-    ensures init { (settings : Settings) → command_of (map string_bytes words.now) ≡ Ok (command.Init settings) → IsTrue D.told → RefusesInit (D.files disk 0) result.status }
+    ensures store { (script : List ℕ) (lines : List Line) → command_of (map string_bytes words.now) ≡ Ok command.Trace → S.left source.old ≡ Some script → AsksFor script lines → IsTrue D.told → RefusesStore (D.files disk) result.status }
+    ensures import_store { (head : Bool) → command_of (map string_bytes words.now) ≡ Ok (command.Import head) → IsTrue D.told → RefusesStore (D.files disk) result.status }
+    ensures info_store { command_of (map string_bytes words.now) ≡ Ok command.Info → IsTrue D.told → RefusesStore (D.files disk) result.status }
+    ensures init { (settings : Settings) → command_of (map string_bytes words.now) ≡ Ok (command.Init settings) → IsTrue D.told → RefusesInit (D.files disk) result.status }
     ensures complete { (script : List ℕ) (lines : List Line) → command_of (map string_bytes words.now) ≡ Ok command.Trace → IsValidTrace D.Disk (world S.Source K.Sink source.old sink.old disk) (world S.Source K.Sink source.new sink.new result.disk) script lines → (result.status ≡ 0) ⊎ (result.status ≡ 3) }
     ensures complete_init { (settings : Settings) → command_of (map string_bytes words.now) ≡ Ok (command.Init settings) → IsValidInit D.Disk (world S.Source K.Sink source.old sink.old disk) (world S.Source K.Sink source.new sink.new result.disk) → (result.status ≡ 0) ⊎ (result.status ≡ 3) }
-    ensures complete_import { (head : Bool) (bytes : List ℕ) (roots : List (List ℕ)) (sections : List Section) → command_of (map string_bytes words.now) ≡ Ok (command.Import head) → IsValidImport head D.Disk (world S.Source K.Sink source.old sink.old disk) (world S.Source K.Sink source.new sink.new result.disk) bytes roots sections → (result.status ≡ 0) ⊎ (result.status ≡ 3) }
+    ensures complete_import { (head : Bool) (bytes : List ℕ) (roots : List (List ℕ)) (sections : List Section) → command_of (map string_bytes words.now) ≡ Ok (command.Import head) → IsValidImport head D.Disk (world S.Source K.Sink source.old sink.old disk) (world S.Source K.Sink source.new sink.new result.disk) bytes roots sections → IsDoneOrFull result.status }
     ensures complete_info { command_of (map string_bytes words.now) ≡ Ok command.Info → IsValidInfo D.Disk (world S.Source K.Sink source.old sink.old disk) (world S.Source K.Sink source.new sink.new result.disk) → (result.status ≡ 0) ⊎ (result.status ≡ 3) }
 {
     run_command(alloc, command_of(words), source, sink, disk)
@@ -236,7 +235,7 @@ fn make_call<D: Disk>(alloc: Global, core: &mut SplitCore<D>, views: &Views, lin
     ensures client { result.client ≡ line.client }
     ensures line { result.line ≡ line.line }
     ensures call { result.call ≡ resolved (client_views views.now line.client) line.call }
-    ensures told { IsTrue D.told → (s : State) (doubt : Option Record) → StandsFor core.old s doubt → Steps core.old core.new s doubt result.call result.answer }
+    ensures told { IsTrue D.told → (s : State) (doubt : Doubt) → StandsFor core.old s doubt → Steps core.old core.new s doubt result.call result.answer }
     ensures made { Makes core.old core.new result.call result.answer }
 {
     let client = line.client;

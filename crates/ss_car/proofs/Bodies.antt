@@ -28,7 +28,6 @@ module _ (first : Option (List ℕ)) where
     start-fault fits _ h = absurd h
 
     pub section-fault : length body ≤ 8388608 → (fault : CarFault) → BodyFault body fault → Blames SectionFault first fault
-    section-fault fits NoMemory h = tt
     section-fault fits ZeroSection h = λ xs is.
         let left = Consumes-is first mid (framed body) xs is taken in
         car.SectionFault.zero_length left.rest (left.parts ∙ ap (λ (b : List ℕ). framed b ++ left.rest) h ∙ ap (λ (l : List ℕ). l ++ left.rest) (append-nil (varint 0)))

@@ -12,9 +12,9 @@ use Rattle.ss_cbor.specs.declared.fault.CborFault.{CborFault}
 use Rattle.ss_cbor.proofs.Numbers.{IsBytes}
 use Rattle.ss_cbor.proofs.Parts.{part_takes, part_again, IsPart-some}
 use Rattle.ss_car.specs.Car.{roots_pair, version_pair, IsHeader}
-use Rattle.ss_car.specs.HeaderReading.{as_pairs, as_key, two_pairs_from, key_from, link_from, links_from, roots_from, version_from, whole, roots_first, version_first, header_in}
+use Rattle.ss_car.specs.HeaderReading.{as_pairs, as_key, two_pairs_from, key_from, links_from, roots_from, version_from, whole, roots_first, version_first, header_in}
 use Rattle.ss_cbor.specs.Options.{◌>>=◌}
-use Rattle.ss_cbor.specs.Reading.{as_count, as_number, as_link}
+use Rattle.ss_cbor.specs.Reading.{as_count, as_number, as_link, count_from, number_from, link_from}
 
 -- ---- steps
 
@@ -131,7 +131,7 @@ links-at (suc n) end bytes x h =
     subst (λ (y : List (List ℕ) × List ℕ). (suc n ≡ length y.0) × PartsAt end bytes (map item.link y.0) y.1) (Some-same others.2) (ap suc rest.0, (first.0.1, is, rest.1))
 
 roots-at : (end : ℕ) (bytes : List ℕ) (x : List (List ℕ) × List ℕ) → roots_from end bytes ≡ Some x → PartsAt end bytes (roots_pair x.0) x.1
-unfolding roots_from
+unfolding roots_from count_from
 roots-at end bytes x h =
     let key = bind-Some (key_from (codes "roots") end bytes) _ x h in
     let count = bind-Some (as_count (part_at 0 end key.0)) _ x key.2 in
@@ -140,7 +140,7 @@ roots-at end bytes x h =
     PartsAt-append end bytes key.0 x.1 (item.text (codes "roots") ∷ []) (item.array (length x.0) ∷ map item.link x.0) (key-at (codes "roots") end bytes key.0 key.1) (count.0.1, is, links.1)
 
 version-at : (end : ℕ) (bytes : List ℕ) (x : ℕ × List ℕ) → version_from end bytes ≡ Some x → PartsAt end bytes (version_pair x.0) x.1
-unfolding version_from
+unfolding version_from number_from
 version-at end bytes x h =
     let key = bind-Some (key_from (codes "version") end bytes) _ x h in
     let is = number-is (part_at 0 end key.0) x key.2 in
@@ -196,17 +196,17 @@ links-again (cid ∷ cids) end bytes rest parts (next, is, p) =
 roots_first-last : (end : ℕ) (bytes : List ℕ) (h : List (List ℕ) × ℕ) (at : List ℕ × List ℕ × List ℕ × List ℕ) → part_at 0 end bytes ≡ Ok (item.map 2, at.0) →
     part_at 0 end at.0 ≡ Ok (item.text (codes "roots"), at.1) → part_at 0 end at.1 ≡ Ok (item.array (length h.0), at.2) →
     links_from (length h.0) end at.2 ≡ Some (h.0, at.3) → PartsAt end at.3 (version_pair h.1) [] → roots_first end bytes ≡ Some h
-unfolding roots_first two_pairs_from roots_from version_from key_from
+unfolding roots_first two_pairs_from roots_from version_from key_from count_from number_from
 roots_first-last end bytes h at is_a is_b is_c is_d (e, is_e, (f, is_f, none)) = rw (is_a, is_b, is_c, is_d, is_e, is_f, none) refl
 
 roots_first-again : (end : ℕ) (bytes : List ℕ) (h : List (List ℕ) × ℕ) → PartsAt end bytes (roots_then h) [] → roots_first end bytes ≡ Some h
-unfolding roots_first two_pairs_from roots_from version_from key_from
+unfolding roots_first two_pairs_from roots_from version_from key_from count_from number_from
 roots_first-again end bytes h (a, is_a, (b, is_b, (c, is_c, p))) =
     let links = links-again h.0 end c [] (version_pair h.1) p in
     roots_first-last end bytes h (a, b, c, links.0) is_a is_b is_c links.1 links.2
 
 version_first-again : (end : ℕ) (bytes : List ℕ) (h : List (List ℕ) × ℕ) → PartsAt end bytes (version_then h) [] → version_first end bytes ≡ Some h
-unfolding version_first two_pairs_from roots_from version_from key_from
+unfolding version_first two_pairs_from roots_from version_from key_from count_from number_from
 version_first-again end bytes h (a, is_a, (b, is_b, (c, is_c, (d, is_d, (e, is_e, p))))) =
     let links = links-again h.0 end e [] [] (subst (λ (l : List Part). PartsAt end e l []) (sym (append-nil (map item.link h.0))) p) in
     rw (is_a, is_b, is_c, is_d, is_e, links.1, links.2) refl

@@ -3,9 +3,10 @@ use native.Mathlib.Numerals.{unary_clauses}
 use Rattle.std.proofs.Common.{◌≡◌, ℕ, zero, suc, ◌+◌, ◌-◌, ◌<◌, ◌≤◌, List, [], ◌∷◌, ◌++◌, Option, Some, None, refl, sym, ap, ◌∙◌, append_assoc, arith}
 use Rattle.std.proofs.lemmas.List.{append-nil}
 use Rattle.ss_cbor.specs.Position.{Position}
-use Rattle.ss_car.specs.HeaderReading.{link_from, links_from}
+use Rattle.ss_cbor.specs.Reading.{link_from}
+use Rattle.ss_car.specs.HeaderReading.{links_from}
 use Rattle.ss_cbor.specs.Options.{◌>>=◌}
-use Rattle.ss_cbor.specs.Position.{Reads}
+use Rattle.ss_cbor.specs.Position.{Reads, Takes}
 
 -- these links, and then those that were found
 abbrev pub after_links : List (List ℕ) → Option (List (List ℕ) × List ℕ) → Option (List (List ℕ) × List ℕ)
@@ -30,7 +31,7 @@ pub links-start : (n : ℕ) (first : Position) → LinksLeft n 0 first first []
 links-start n first = record { bound = omega arith; end = refl; same = simp unary_clauses (after-none (links_from n first.end first.rest)) }
 
 module _ (n i : ℕ) (first now : Position) (done : List (List ℕ)) (left : LinksLeft n i first now done) where
-  pub links-next : (next : Position) (cid : List ℕ) → i < n → Reads {X = List ℕ} (λ cid. cid) link_from now next (Some cid) → LinksLeft n (i + 1) first next (done ++ cid ∷ [])
+  pub links-next : (next : Position) (cid : List ℕ) → i < n → Takes {X = List ℕ} (λ cid. cid) link_from now next (Some cid) → LinksLeft n (i + 1) first next (done ++ cid ∷ [])
   unfolding links_from
   links-next next cid lt reads =
       let e : n - i ≡ suc (n - (i + 1)) = omega arith in
@@ -38,7 +39,7 @@ module _ (n i : ℕ) (first now : Position) (done : List (List ℕ)) (left : Lin
       let step : links_from (n - i) now.end now.rest ≡ (others >>= λ x. Some (cid ∷ x.0, x.1)) = rw (e, reads.value, reads.end) refl in
       record { bound = omega arith; end = reads.end ∙ left.end; same = left.same ∙ ap (after_links done) step ∙ after-one done cid others }
 
-  pub links-stop : (next : Position) → i < n → Reads {X = List ℕ} (λ cid. cid) link_from now next None → Reads {X = List (List ℕ)} (λ roots. roots) (links_from n) first next None
+  pub links-stop : (next : Position) → i < n → Takes {X = List ℕ} (λ cid. cid) link_from now next None → Reads {X = List (List ℕ)} (λ roots. roots) (links_from n) first next None
   unfolding links_from
   links-stop next lt reads =
       let e : n - i ≡ suc (n - (i + 1)) = omega arith in

@@ -32,9 +32,8 @@ HeaderFault body CarFault.BadHeader = (roots : List (List ℕ)) (version : ℕ) 
 HeaderFault body (CarFault.BadVersion version) = (roots : List (List ℕ)) × (IsHeader body roots version × (version ≡ 1 → ⊥))
 HeaderFault body _ = ⊥
 
--- what is wrong with the bytes of a section, or memory ran out
+-- what is wrong with the bytes of a section
 abbrev pub BodyFault : List ℕ → CarFault → Type 0
-BodyFault body CarFault.NoMemory = ⊤
 BodyFault body CarFault.ZeroSection = body ≡ []
 BodyFault body CarFault.BadCid = (0 < length body) × ((fault : CidFault) × (cid_at body ≡ Err fault))
 BodyFault body _ = ⊥

@@ -1,6 +1,6 @@
 -- Reading a header's map from left to right: the roots and the version, or nothing. `end` is the length of the whole header.
 use Rattle.std.specs.{Prelude.{ℕ, zero, suc, ◌==◌, nat_eq, if◌then◌else◌, List, [], ◌∷◌, length, codes, Option, Some, None, Result, Ok}, Cmp.Lexicographic.pointwise, Option.option_or}
-use Rattle.ss_cbor.specs.{Item.{Part, text, map}, Options.{◌>>=◌}, Reading.{part_at, as_count, as_number, as_link}, declared.fault.CborFault.CborFault}
+use Rattle.ss_cbor.specs.{Item.{Part, text, map}, Options.{◌>>=◌}, Reading.{part_at, count_from, number_from, link_from}, declared.fault.CborFault.CborFault}
 
 -- what a part says, where it is of this kind, and what follows it
 abbrev pub as_pairs : Result (Part × List ℕ) CborFault → Option (ℕ × List ℕ)
@@ -23,10 +23,6 @@ key_from key end bytes = do
   found ← as_key (part_at 0 end bytes)
   if pointwise nat_eq found.0 key then Some found.1 else None
 
--- one link
-unfoldable pub link_from : ℕ → List ℕ → Option (List ℕ × List ℕ)
-link_from end bytes = as_link (part_at 0 end bytes)
-
 -- so many links
 unfoldable pub links_from : ℕ → ℕ → List ℕ → Option (List (List ℕ) × List ℕ)
 links_from zero end bytes = Some ([], bytes)
@@ -39,14 +35,14 @@ links_from (suc n) end bytes = do
 unfoldable pub roots_from : ℕ → List ℕ → Option (List (List ℕ) × List ℕ)
 roots_from end bytes = do
   rest ← key_from (codes "roots") end bytes
-  count ← as_count (part_at 0 end rest)
+  count ← count_from end rest
   links_from count.0 end count.1
 
 -- the key `version` with its value
 unfoldable pub version_from : ℕ → List ℕ → Option (ℕ × List ℕ)
 version_from end bytes = do
   rest ← key_from (codes "version") end bytes
-  as_number (part_at 0 end rest)
+  number_from end rest
 
 -- nothing follows
 abbrev pub whole : {A : Type 0} → A → List ℕ → Option A

@@ -2,7 +2,7 @@
 use Rattle.std.specs.{Prelude.{◌≡◌, ℕ, ◌+◌, ◌≤◌, List, [], ◌∷◌, ◌++◌, length, codes, Option, Result, Ok, Err}, List.flat_map, Io.KnownBytes.{Keeps, Appends}}
 use Rattle.ss_cbor.specs.Item.{head}
 use Rattle.ss_cid.specs.Cid.{IsCid}
-use Rattle.ss_io.specs.Streams.{Rose, AppendsFront}
+use Rattle.ss_io.specs.Streams.{AppendsFront}
 use Rattle.ss_car.specs.{Car.{framed, Section}, declared.fault.CarWriteFault.CarWriteFault}
 
 -- ---- the bytes
@@ -40,9 +40,3 @@ abbrev pub Writes : Option (List ℕ) → Option (List ℕ) → List ℕ → Res
 Writes old new bytes (Ok _) = Appends old new bytes
 Writes old new bytes (Err CarWriteFault.WriteFault) = AppendsFront old new bytes
 Writes old new bytes (Err CarWriteFault.NoMemory) = Keeps old new
-
--- the sink's count of faults rose where it is what failed, and stayed in every other case
-abbrev pub WriteHasCause : ℕ → ℕ → Result (Unit {0}) CarWriteFault → Type 0
-WriteHasCause before now (Ok _) = now ≡ before
-WriteHasCause before now (Err CarWriteFault.WriteFault) = Rose before now
-WriteHasCause before now (Err CarWriteFault.NoMemory) = now ≡ before

@@ -32,7 +32,7 @@ pub enum CarFault {
 }
 
 impl CarFault {
-    /// The refusal of what begins at this place.
+    /// The refusal of what begins at this offset.
     pub(crate) fn at(self, offset: u64) -> CarRefusal
         ensures { result ≡ record { fault = self; offset = offset } }
     {
@@ -85,7 +85,7 @@ impl Error for CarFault {}
 pub struct CarRefusal {
     /// What is wrong.
     pub fault: CarFault,
-    /// The place of the first byte of what is refused: 0 for the header, that of its length for a section. Places count
+    /// The offset of the first byte of what is refused: 0 for the header, that of its length for a section. Offsets count
     /// bytes from 0.
     pub offset: u64,
 }

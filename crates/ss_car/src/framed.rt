@@ -1,4 +1,4 @@
-//! Reading a length and as many bytes from the front of a source, in whatever pieces it gives them.
+//! Reading a length and as many bytes from the start of a source, in whatever pieces it gives them.
 ghost use Rattle.std.specs.Prelude.{◌≡◌, ℕ, ◌+◌, ◌<◌, ◌≤◌, ◌^◌, List, ◌++◌, length, Err, IfOk, IfErr};
 ghost use Rattle.std.specs.Io.KnownBytes.{Consumes};
 ghost use Rattle.ss_cid.specs.Varint.{varint, varint_at};
@@ -49,7 +49,7 @@ fn next_bytes<S: Source + Drop>(
     ensures cause { HasCause (faults_of S.Source source.old) (faults_of S.Source source.new) result }
     ensures place { place_of S.Source source.new ≡ place_of S.Source source.old }
 {
-    let mut bytes = Vec::new(alloc);
+    let mut bytes = Vec::with_capacity(alloc, len)?;
     'bytes: while bytes.len() < len {
         source.fill()?;
         let lent = source.buffered();

@@ -2,12 +2,12 @@
 ghost use Rattle.std.specs.Prelude.{◌≡◌, length, IfOk, IfErr};
 ghost use Rattle.ss_car.specs.Bodies.{HeaderFault};
 ghost use Rattle.ss_car.specs.Car.{IsHeader};
-ghost use Rattle.ss_car.specs.HeaderReading.{two_pairs_from, key_from, link_from, links_from, roots_from, version_from, roots_first, version_first, header_in};
+ghost use Rattle.ss_car.specs.HeaderReading.{two_pairs_from, key_from, links_from, roots_from, version_from, roots_first, version_first, header_in};
 ghost use Rattle.ss_cbor.specs.Position.{Reads, Passes};
 
 use crate::fault::CarFault;
 use ss_cbor::{Cursor, Item};
-use ss_cid::{Cid, Cids, NoMemory};
+use ss_cid::{Cids, NoMemory};
 use std::alloc::Global;
 
 /// The version of the CARs that are read and written.
@@ -123,12 +123,9 @@ fn next_roots(alloc: Global, cursor: &mut Cursor<'_>) -> Result<Option<Cids>, No
     let Some(()) = pass_key(cursor, ROOTS) else {
         return Ok(None);
     };
-    match cursor.next() {
-        Ok(item) => match item {
-            Item::Array(n) => next_links(alloc, cursor, n),
-            _ => Ok(None),
-        },
-        Err(_) => Ok(None),
+    match cursor.array() {
+        Some(n) => next_links(alloc, cursor, n),
+        None => Ok(None),
     }
 }
 
@@ -138,26 +135,12 @@ fn next_links(alloc: Global, cursor: &mut Cursor<'_>, n: u64) -> Result<Option<C
 {
     let mut roots = Cids::new(alloc);
     for _ in 0..n {
-        let Some(cid) = next_link(cursor) else {
+        let Some(cid) = cursor.link() else {
             return Ok(None);
         };
         roots.push(cid)?;
     }
     Ok(Some(roots))
-}
-
-// A link.
-#[tactic(auto, unfolding(crate::specs::HeaderReading::link_from))]
-fn next_link(cursor: &mut Cursor<'_>) -> Option<Cid>
-    ensures { Reads (λ cid. cid) link_from cursor.old cursor.new result }
-{
-    match cursor.next() {
-        Ok(item) => match item {
-            Item::Link(cid) => Some(cid),
-            _ => None,
-        },
-        Err(_) => None,
-    }
 }
 
 // The key `version` with its value.
@@ -166,11 +149,5 @@ fn next_version(cursor: &mut Cursor<'_>) -> Option<u64>
     ensures { Reads (λ n. n) version_from cursor.old cursor.new result }
 {
     pass_key(cursor, VERSION_KEY)?;
-    match cursor.next() {
-        Ok(item) => match item {
-            Item::Uint(n) => Some(n),
-            _ => None,
-        },
-        Err(_) => None,
-    }
+    cursor.uint()
 }

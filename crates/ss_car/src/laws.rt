@@ -45,7 +45,7 @@ pub fn a_car_says_one_thing()
         IsCar bytes roots sections ending → IsCar bytes others those other → (roots ≡ others) × (sections ≡ those) × (ending ≡ other) }
 {}
 
-/// What the front of a file says, the file says: its roots, and its sections before any others.
+/// What a prefix of a file says, the file says: its roots, and its sections before any others.
 pub fn a_front_says_what_the_file_does()
     ensures { (front rest : List ℕ) (roots others : List (List ℕ)) (sections all : List Section) (ending : Option CarRefusal) →
         IsCar front roots sections None → IsCar (front ++ rest) others all ending → (roots ≡ others) × ((more : List Section) × (all ≡ sections ++ more)) }

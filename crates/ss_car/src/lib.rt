@@ -7,7 +7,7 @@
 //!
 //! [`CarReader`] reads a source in whatever pieces it gives its bytes: the roots, then one section after another, and then
 //! the end, which comes exactly where no byte is left. A refusal has the offset of the header, which is 0, or of the
-//! section's length, and is answered again from then on. At a header or a section in place p these are tested in order:
+//! section's length, and is answered again from then on. At a header or a section at offset p these are tested in order:
 //!
 //! 1. the first nine bytes of the length all have the high bit: `BadLength`; the input ends inside the length: `Truncated`; it is
 //!    not in its shortest form: `BadLength`;

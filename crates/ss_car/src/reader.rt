@@ -1,5 +1,5 @@
 //! Reading a CAR section by section.
-ghost use Rattle.std.specs.Prelude.{◌≡◌, ◌<◌, ◌^◌, Some, None, Err, IfOk, IfErr, OnOk};
+ghost use Rattle.std.specs.Prelude.{◌≡◌, ◌<◌, ◌^◌, Some, None, Err, IfOk, IfErr, OnOk, OnErr};
 ghost use Rattle.ss_car.specs.Bodies.{NextFault, TakesStart, Blames, FaultHasCause, roots_of, taken_of, refusal_of, input_left, input_faults, input_place, GivesNext, RefusalHasCause};
 ghost use Rattle.ss_car.specs.Car.{StartFault};
 ghost use Rattle.ss_car.specs.declared.fault.CarRefusal.{CarRefusal};
@@ -80,6 +80,7 @@ impl<S: Source + Drop> CarReader<S> {
         ensures kept { IfErr result (λ refusal. refusal_of self.new ≡ Some refusal) }
         ensures again { (refusal : CarRefusal) → refusal_of self.old ≡ Some refusal → (result ≡ Err refusal) × (self.new ≡ self.old) }
         ensures fresh { OnOk result (refusal_of self.new ≡ None) }
+        ensures taken { OnErr result (taken_of self.new ≡ taken_of self.old) }
         ensures roots { roots_of self.new ≡ roots_of self.old }
         ensures place { input_place S.Source self.new ≡ input_place S.Source self.old }
     {

@@ -1,5 +1,5 @@
-//! Reading the header or a section from the front of a source.
-ghost use Rattle.std.specs.Prelude.{◌≡◌, ◌<◌, ◌^◌, ◌++◌, length, IfOk, IfErr};
+//! Reading the header or a section from the start of a source.
+ghost use Rattle.std.specs.Prelude.{◌≡◌, ◌<◌, ◌≤◌, ◌^◌, ◌++◌, length, drop, IfOk, IfErr};
 ghost use Rattle.ss_cid.specs.Cid.{IsCid};
 ghost use Rattle.ss_car.specs.Bodies.{BodyFault, NextFault, TakesStart, TakesSection, TakesNext, Blames, HasCause, left_of, faults_of, place_of};
 ghost use Rattle.ss_car.specs.Car.{framed, StartFault, SectionFault};
@@ -63,24 +63,34 @@ fn next_section<S: Source + Drop>(
     ensures place { place_of S.Source source.new ≡ place_of S.Source source.old }
 {
     let (body, count) = next_framed(alloc, source, MAX_SECTION)?;
-    let (cid, data) = split_section(alloc, &body)?;
+    let (cid, data) = split_section(body)?;
     Ok((cid, data, count))
 }
 
-// The CID and the data of a section.
+// The CID and the data of a section. The data keep the memory that they lie in.
 #[tactic(auto, unfolding(ss_cid::specs::Cid::cid_at))]
-fn split_section(alloc: Global, body: &[u8]) -> Result<(Cid, Bytes), CarFault>
-    ensures parts { IfOk result (λ found. IsCid found.0 × (body.now ≡ found.0 ++ found.1)) }
-    ensures refused { IfErr result (BodyFault body.now) }
+fn split_section(mut body: Vec<u8>) -> Result<(Cid, Bytes), CarFault>
+    ensures parts { IfOk result (λ found. IsCid found.0 × (body.items ≡ found.0 ++ found.1)) }
+    ensures refused { IfErr result (BodyFault body.items) }
 {
     if body.is_empty() {
         return Err(CarFault::ZeroSection);
     }
-    match Cid::parse(body) {
+    match Cid::parse(&body) {
         Ok((cid, len)) => {
-            let data = Bytes::from_slice(alloc, &body[len..])?;
-            Ok((cid, data))
+            remove_front(&mut body, len);
+            Ok((cid, Bytes::from(body)))
         }
         Err(_) => Err(CarFault::BadCid),
     }
+}
+
+// Takes the first bytes away.
+fn remove_front(bytes: &mut Vec<u8>, count: usize)
+    requires { count ≤ length bytes.old.items }
+    ensures { bytes.new.items ≡ drop count bytes.old.items }
+{
+    let rest = bytes.len() - count;
+    bytes.copy_within(count.., 0);
+    bytes.truncate(rest);
 }

@@ -3,7 +3,9 @@ ghost use Rattle.std.specs.Prelude.{◌≡◌, ◌++◌, IfOk, OnOk};
 ghost use Rattle.std.specs.List.{flat_map};
 ghost use Rattle.ss_io.specs.Streams.{HasCause, PutAppends};
 ghost use Rattle.ss_car.specs.Car.{framed};
-ghost use Rattle.ss_car.specs.Writing.{link_bytes, header_bytes, Writes, WriteHasCause};
+ghost use Rattle.ss_car.specs.Writing.{link_bytes, header_bytes, Writes};
+ghost use Rattle.ss_car.specs.declared.fault.CarWriteFault.TheVariants.{WriteFault};
+ghost use Rattle.ss_device.specs.Faults.{CountsFault};
 
 use crate::fault::CarWriteFault;
 use crate::framed::MAX_LENGTH;
@@ -19,7 +21,7 @@ use std::alloc::Global;
 /// A header of more than 1,048,576 bytes, which is one of some 25,000 roots, is written, and no reader takes it.
 pub fn write_header<K: Sink>(alloc: Global, sink: &mut K, roots: &Cids) -> Result<(), CarWriteFault>
     ensures written { Writes (K.written sink.old) (K.written sink.new) (framed (header_bytes roots.now)) result }
-    ensures cause { WriteHasCause (K.faults sink.old) (K.faults sink.new) result }
+    ensures cause { CountsFault WriteFault (K.faults sink.old) (K.faults sink.new) result }
     ensures place { K.place sink.new ≡ K.place sink.old }
 {
     let header = encode_header(alloc, roots)?;
@@ -38,7 +40,7 @@ pub fn write_section<K: Sink>(
     data: &[u8],
 ) -> Result<(), CarWriteFault>
     ensures written { Writes (K.written sink.old) (K.written sink.new) (framed (cid.now ++ «data».now)) result }
-    ensures cause { WriteHasCause (K.faults sink.old) (K.faults sink.new) result }
+    ensures cause { CountsFault WriteFault (K.faults sink.old) (K.faults sink.new) result }
     ensures place { K.place sink.new ≡ K.place sink.old }
 {
     let cid = cid.as_bytes();

@@ -3,7 +3,7 @@ use Rattle.std.specs.Prelude.{◌≡◌, ◌≢◌, ℕ, zero, suc, ◌+◌, ◌
 use Rattle.ss_cid.specs.Steps.{◌>>=◌}
 use Rattle.ss_cbor.specs.{Item.{Part, items_in, links_of, IsItem}, Reading.{fails, part_at}, declared.fault.CborFault.CborFault, declared.fault.CborKind.TheVariants.{Truncated, Trailing}, declared.fault.CborKind.CborKind}
 
--- the first fault of so many items, from left to right: of the first part, or behind it
+-- the first fault of so many items, from left to right: of the first part, or after it
 pub data FirstFault (end : ℕ) : ℕ → List ℕ → CborFault → Type 0 where
   here : {due : ℕ} {bytes : List ℕ} {fault : CborFault} →
       part_at due end bytes ≡ Err fault → FirstFault end (suc due) bytes fault
@@ -11,7 +11,7 @@ pub data FirstFault (end : ℕ) : ℕ → List ℕ → CborFault → Type 0 wher
       part_at due end bytes ≡ Ok (part, rest) → FirstFault end (items_in part + due) rest fault →
       FirstFault end (suc due) bytes fault
 
--- one item stands at the front, and more bytes behind it
+-- one item stands at the start, and more bytes after it
 pub record IsTrailing (bytes : List ℕ) (fault : CborFault) : Type 0 where
   pub item : List ℕ
   pub rest : List ℕ
@@ -44,7 +44,7 @@ rest_at due end bytes = do
   items ← items_at due end bytes
   Ok items.1
 
--- the bytes of the one item at the front and what follows it, or the first fault
+-- the bytes of the one item at the start and what follows it, or the first fault
 unfoldable pub item_at : ℕ → List ℕ → Result (List ℕ × List ℕ) CborFault
 item_at end bytes = do
   rest ← rest_at 1 end bytes

@@ -1,5 +1,5 @@
 -- Where a cursor stands, and what it and readers of slices return.
-use Rattle.std.specs.Prelude.{◌≡◌, ℕ, ◌-◌, List, length, Option, Some, None, MatchOption, Result, Ok, Err, MatchResult}
+use Rattle.std.specs.Prelude.{◌≡◌, ℕ, ◌-◌, List, length, Option, Some, None, MatchOption, IfNone, Result, Ok, Err, MatchResult}
 
 pub record Position : Type 0 where
   -- the bytes that are left
@@ -7,7 +7,7 @@ pub record Position : Type 0 where
   -- the length of the whole input
   pub end : ℕ
 
--- the position in front of these bytes
+-- the position before these bytes
 abbrev pub start_of : List ℕ → Position
 start_of bytes = record { rest = bytes; end = length bytes }
 
@@ -19,6 +19,12 @@ place_of p = p.end - length p.rest
 pub record Reads {X Y : Type 0} (view : X → Y) (from : ℕ → List ℕ → Option (Y × List ℕ)) (old new : Position) (result : Option X) : Type 0 where
   pub value : MatchOption result (from old.end old.rest ≡ None) (λ x. from old.end old.rest ≡ Some (view x, new.rest))
   pub end : new.end ≡ old.end
+
+-- the same of one part, and a cursor that is refused stays
+pub record Takes {X Y : Type 0} (view : X → Y) (from : ℕ → List ℕ → Option (Y × List ℕ)) (old new : Position) (result : Option X) : Type 0 where
+  pub value : MatchOption result (from old.end old.rest ≡ None) (λ x. from old.end old.rest ≡ Some (view x, new.rest))
+  pub end : new.end ≡ old.end
+  pub stays : IfNone result (new ≡ old)
 
 -- the cursor passed what this reads
 pub record Passes (from : ℕ → List ℕ → Option (List ℕ)) (old new : Position) (result : Option (Unit {0})) : Type 0 where

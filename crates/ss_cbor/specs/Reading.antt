@@ -1,10 +1,10 @@
--- Reading one part from the front of what is left of an input: the part and the bytes behind it, or the first
--- fault. `end` is the length of the whole input, so what is left begins at the place `end - length bytes`.
+-- Reading one part from the start of what is left of an input: the part and the bytes after it, or the first
+-- fault. `end` is the length of the whole input, so what is left begins at the offset `end - length bytes`.
 use Rattle.std.specs.{Prelude.{ℕ, zero, ◌+◌, ◌-◌, ◌/◌, ◌%◌, ◌^◌, ◌==◌, ◌&&◌, nat_lt, nat_le, if◌then◌else◌, Bool, true, false, List, [], ◌∷◌, length, take, drop, Option, Some, None, Result, Ok, Err, suc, ◌++◌}, Int.{Width, w8, w16, w32, w64, byte_len, from_be_bytes}}
 use Rattle.ss_cid.specs.{Cid.cid_len, Steps.{◌>>=◌}, declared.fault.CidFault.CidFault}
 use Rattle.ss_cbor.specs.{Item.{Part, items_in, uint, nint, blob, text, array, map, link, float, bool, null, links_of}, declared.fault.CborFault.CborFault, declared.fault.CborKind.CborKind}
 
--- a fault of this kind at a place
+-- a fault of this kind at an offset
 abbrev pub fails : {A : Type 0} → CborKind → ℕ → Result A CborFault
 fails kind at = Err (record { kind = kind; at = at })
 
@@ -19,7 +19,7 @@ wide_at w least at end bytes =
 abbrev pub has_indefinite_form : ℕ → Bool
 has_indefinite_form major = nat_le 2 major && nat_le major 5
 
--- the argument of the head at a place, by the low five bits of its first byte and what follows that byte
+-- the argument of the head at an offset, by the low five bits of its first byte and what follows that byte
 unfoldable pub argument_at : ℕ → ℕ → ℕ → ℕ → List ℕ → Result (ℕ × List ℕ) CborFault
 argument_at major low at end bytes =
     if nat_lt low 24 then Ok (low, bytes)
@@ -30,12 +30,12 @@ argument_at major low at end bytes =
     else if (low == 31) && has_indefinite_form major then fails CborKind.Indefinite at
     else fails CborKind.LongHead at
 
--- so many bytes, and those behind them
+-- so many bytes, and those after them
 unfoldable pub bytes_at : ℕ → ℕ → List ℕ → Result (List ℕ × List ℕ) CborFault
 bytes_at len end bytes =
     if nat_lt (length bytes) len then fails CborKind.Truncated end else Ok (take len bytes, drop len bytes)
 
--- a part that holds items, which with the `due` items behind it are at most 2 ^ 63 - 1
+-- a part that holds items, which with the `due` items after it are at most 2 ^ 63 - 1
 unfoldable pub holding : Part → ℕ → ℕ → List ℕ → Result (Option Part × List ℕ) CborFault
 holding part due at bytes =
     if nat_lt (due + items_in part) (2 ^ 63) then Ok (Some part, bytes) else fails CborKind.CountTooLarge at
@@ -61,7 +61,7 @@ simple_at byte at end bytes =
     else if byte == 0xfb then (bytes_at 8 end bytes >>= λ x. Ok (Some float, x.1))
     else fails CborKind.BadSimple at
 
--- one head with its content, behind which `due` items are due: a part, or nothing yet for tag 42
+-- one head with its content, after which `due` items are due: a part, or nothing yet for tag 42
 unfoldable pub piece_at : ℕ → ℕ → List ℕ → Result (Option Part × List ℕ) CborFault
 piece_at due end [] = fails CborKind.Truncated end
 piece_at due end (byte ∷ bytes) =
@@ -78,12 +78,12 @@ is_whole (Err fault) all = false
 unfoldable pub is_cid : List ℕ → Bool
 is_cid bytes = is_whole (cid_len bytes) (length bytes)
 
--- what stands behind tag 42 is a byte string, the byte 00 and a whole CID; else the tag is at fault
+-- what stands after tag 42 is a byte string, the byte 00 and a whole CID; else the tag is at fault
 unfoldable pub linked : ℕ → Option Part → Result Part CborFault
 linked at (Some (blob (zero ∷ cid))) = if is_cid cid then Ok (link cid) else fails CborKind.BadLink at
 linked at _ = fails CborKind.BadLink at
 
--- The part that a piece at a place begins. Behind tag 42 the faults of the next head come first.
+-- The part that a piece at an offset begins. After tag 42 the faults of the next head come first.
 unfoldable pub part_from : ℕ → ℕ → ℕ → Option Part → List ℕ → Result (Part × List ℕ) CborFault
 part_from due end at (Some part) bytes = Ok (part, bytes)
 part_from due end at None bytes = do
@@ -91,13 +91,13 @@ part_from due end at None bytes = do
   part ← linked at piece.0
   Ok (part, piece.1)
 
--- one part, behind which `due` items are due
+-- one part, after which `due` items are due
 unfoldable pub part_at : ℕ → ℕ → List ℕ → Result (Part × List ℕ) CborFault
 part_at due end bytes = do
   piece ← piece_at due end bytes
   part_from due end (end - length bytes) piece.0 piece.1
 
--- ---- one part of a kind: what an array's head, a number or a link says, and what follows it
+-- ---- one part of a kind: what an array's head, a number, a link or a byte string says, and what follows it
 
 abbrev pub as_count : Result (Part × List ℕ) CborFault → Option (ℕ × List ℕ)
 as_count (Ok (array n, rest)) = Some (n, rest)
@@ -111,16 +111,32 @@ abbrev pub as_link : Result (Part × List ℕ) CborFault → Option (List ℕ ×
 as_link (Ok (link cid, rest)) = Some (cid, rest)
 as_link _ = None
 
+abbrev pub as_blob : Result (Part × List ℕ) CborFault → Option (List ℕ × List ℕ)
+as_blob (Ok (blob bytes, rest)) = Some (bytes, rest)
+as_blob _ = None
+
+unfoldable pub count_from : ℕ → List ℕ → Option (ℕ × List ℕ)
+count_from end bytes = as_count (part_at 0 end bytes)
+
+unfoldable pub number_from : ℕ → List ℕ → Option (ℕ × List ℕ)
+number_from end bytes = as_number (part_at 0 end bytes)
+
+unfoldable pub link_from : ℕ → List ℕ → Option (List ℕ × List ℕ)
+link_from end bytes = as_link (part_at 0 end bytes)
+
+unfoldable pub blob_from : ℕ → List ℕ → Option (List ℕ × List ℕ)
+blob_from end bytes = as_blob (part_at 0 end bytes)
+
 -- the links, or none where there is a fault
 abbrev pub or_none : Result (List (List ℕ)) CborFault → List (List ℕ)
 or_none (Ok links) = links
 or_none (Err fault) = []
 
--- the links of the parts at the front, up to the first fault, in at most so many parts
+-- the links of the parts at the start, up to the first fault, in at most so many parts
 unfoldable pub links_by : ℕ → List ℕ → List (List ℕ)
 links_by zero bytes = []
 links_by (suc most) bytes = or_none (part_at 0 (length bytes) bytes >>= λ x. Ok (links_of x.0 ++ links_by most x.1))
 
--- the links of the parts at the front, up to the first fault or the end
+-- the links of the parts at the start, up to the first fault or the end
 unfoldable pub links_left : List ℕ → List (List ℕ)
 links_left bytes = links_by (length bytes) bytes

@@ -71,7 +71,7 @@ fn u64_at(at: usize, end: usize, bytes: &[u8]) -> Result<(u64, &[u8]), CborFault
     Ok((n, rest))
 }
 
-/// The argument of the head at a place, by the low five bits of its first byte, and what is behind it.
+/// The argument of the head at an offset, by the low five bits of its first byte, and what is after it.
 #[tactic(auto, unfolding(crate::specs::Reading::argument_at))]
 #[inline(always)]
 pub fn argument_at<'a>(

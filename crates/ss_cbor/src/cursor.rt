@@ -2,10 +2,10 @@
 ghost use Rattle.std.specs.Prelude.{◌≡◌, ◌↔◌, ◌≤◌, ◌++◌, length, [], ℕ, List, Ok, Err, MatchResult, IfOk, IfErr, OnErr, IsTrue, All};
 ghost use Rattle.ss_cid.specs.Cid.{IsCid};
 ghost use Rattle.ss_cbor.specs.Fault.{FirstFault, item_at};
-ghost use Rattle.ss_cbor.specs.Position.{Gives, start_of, place_of};
+ghost use Rattle.ss_cbor.specs.Position.{Gives, Takes, start_of, place_of};
 ghost use Rattle.ss_cbor.specs.Item.{links_of, IsPart, IsItem};
 ghost use Rattle.ss_cbor.specs.Part.{part_of, raw_part_of};
-ghost use Rattle.ss_cbor.specs.Reading.{part_at};
+ghost use Rattle.ss_cbor.specs.Reading.{part_at, count_from, number_from, link_from, blob_from};
 
 use crate::fault::CborFault;
 use crate::item::Item;
@@ -13,6 +13,7 @@ use crate::links::cid_of;
 use crate::raw_part::RawPart;
 use crate::reading::part_at;
 use crate::scanner::item_end;
+use ss_cid::Cid;
 use std::marker::Model;
 
 /// Reads items from left to right. An array or a map is entered: the items in it come next.
@@ -34,7 +35,7 @@ impl<'a> Model for Cursor<'a> {
 }
 
 impl<'a> Cursor<'a> {
-    /// A cursor in front of all bytes.
+    /// A cursor before all bytes.
     pub fn new(bytes: &'a [u8]) -> Cursor<'a>
         ensures { result ≡ start_of bytes.now }
     {
@@ -47,7 +48,7 @@ impl<'a> Cursor<'a> {
     /// Reads one part, which of an array or a map is its head alone.
     ///
     /// Refused with the first fault of that head and its content, in the order that the crate's page has; for a
-    /// link, of its tag and what is behind it. Items due are counted from this head alone, so `CountTooLarge`
+    /// link, of its tag and what is after it. Items due are counted from this head alone, so `CountTooLarge`
     /// means that it holds more than 2^63 - 1 by itself. `Trailing` is never answered, and at the end of the
     /// input `Truncated` is. A refused cursor is unchanged.
     pub fn next(&mut self) -> Result<Item<'a>, CborFault>
@@ -64,6 +65,75 @@ impl<'a> Cursor<'a> {
                 Ok(item)
             }
             Err(fault) => Err(fault),
+        }
+    }
+
+    /// Reads the head of an array, and answers how many items it has: they come next. Of anything else the answer is None, and
+    /// the cursor is unchanged; so it is of the three calls below.
+    #[tactic(auto, unfolding(crate::specs::Reading::count_from))]
+    pub fn array(&mut self) -> Option<u64>
+        ensures { Takes (λ n. n) count_from self.old self.new result }
+    {
+        match next_item(self.end, self.rest) {
+            Ok((item, rest)) => match item {
+                Item::Array(n) => {
+                    self.rest = rest;
+                    Some(n)
+                }
+                _ => None,
+            },
+            Err(_) => None,
+        }
+    }
+
+    /// Reads a number that is at least 0.
+    #[tactic(auto, unfolding(crate::specs::Reading::number_from))]
+    pub fn uint(&mut self) -> Option<u64>
+        ensures { Takes (λ n. n) number_from self.old self.new result }
+    {
+        match next_item(self.end, self.rest) {
+            Ok((item, rest)) => match item {
+                Item::Uint(n) => {
+                    self.rest = rest;
+                    Some(n)
+                }
+                _ => None,
+            },
+            Err(_) => None,
+        }
+    }
+
+    /// Reads a link, and answers its CID.
+    #[tactic(auto, unfolding(crate::specs::Reading::link_from))]
+    pub fn link(&mut self) -> Option<Cid>
+        ensures { Takes (λ cid. cid) link_from self.old self.new result }
+    {
+        match next_item(self.end, self.rest) {
+            Ok((item, rest)) => match item {
+                Item::Link(cid) => {
+                    self.rest = rest;
+                    Some(cid)
+                }
+                _ => None,
+            },
+            Err(_) => None,
+        }
+    }
+
+    /// Reads a byte string, and lends its bytes.
+    #[tactic(auto, unfolding(crate::specs::Reading::blob_from))]
+    pub fn blob(&mut self) -> Option<&'a [u8]>
+        ensures { Takes (λ bytes. bytes.now) blob_from self.old self.new result }
+    {
+        match next_item(self.end, self.rest) {
+            Ok((item, rest)) => match item {
+                Item::Blob(bytes) => {
+                    self.rest = rest;
+                    Some(bytes)
+                }
+                _ => None,
+            },
+            Err(_) => None,
         }
     }
 
@@ -104,7 +174,7 @@ impl<'a> Cursor<'a> {
     }
 }
 
-// The part at the front of the bytes, and what is behind it.
+// The part at the start of the bytes, and what is after it.
 fn next_item(end: usize, bytes: &[u8]) -> Result<(Item<'_>, &[u8]), CborFault>
     requires { length bytes.now ≤ end }
     ensures value { Gives (λ x. (part_of x.0, x.1.now)) result (part_at 0 end bytes.now) }
@@ -120,7 +190,7 @@ fn next_item(end: usize, bytes: &[u8]) -> Result<(Item<'_>, &[u8]), CborFault>
     }
 }
 
-// The bytes of the item at the front, and what is behind it.
+// The bytes of the item at the start, and what is after it.
 fn split_item(end: usize, bytes: &[u8]) -> Result<(&[u8], &[u8]), CborFault>
     requires { length bytes.now ≤ end }
     ensures value { Gives (λ x. (x.0.now, x.1.now)) result (item_at end bytes.now) }

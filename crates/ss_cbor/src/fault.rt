@@ -20,14 +20,14 @@ pub enum CborKind {
     BadLink = 5,
     /// A simple value other than false, true and null, or a float of another width than 64 bits.
     BadSimple = 6,
-    /// Bytes behind the item.
+    /// Bytes after the item.
     Trailing = 7,
     /// More than 2^63 - 1 items would be due.
     CountTooLarge = 8,
 }
 
 impl CborKind {
-    /// The fault of this kind at a place.
+    /// The fault of this kind at an offset.
     pub(crate) fn at(self, at: usize) -> CborFault
         ensures { result ≡ record { kind = self; at = at } }
     {
@@ -48,8 +48,8 @@ impl From<CborKind> for u8 {
 pub struct CborFault {
     /// What is wrong.
     pub kind: CborKind,
-    /// The place of the head at fault, or of the tag of a bad link; the input's length for `Truncated`; the
-    /// first byte behind the item for `Trailing`. Places count bytes from 0.
+    /// The offset of the head at fault, or of the tag of a bad link; the input's length for `Truncated`; the
+    /// first byte after the item for `Trailing`. Offsets count bytes from 0.
     pub at: usize,
 }
 

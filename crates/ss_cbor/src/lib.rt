@@ -6,16 +6,16 @@
 //! of a float are passed over. Nesting has no limit.
 //!
 //! [`scan`] accepts exactly the bytes that are one item, and gives its links in order of bytes; of other bytes it
-//! gives the first fault from left to right, with its place. [`Cursor`] reads part by part, or a whole item at
+//! gives the first fault from left to right, with its offset. [`Cursor`] reads part by part, or a whole item at
 //! once. [`Writer`] spells parts. That bytes have one reading, as an item or by their first fault, and that what
 //! is spelled is read again, is in [`laws`]. `scan`, [`Links`] and [`Cursor`] take no memory, and no stack that
 //! grows with the input: a loop counts the items that are still due.
 //!
-//! At a head in place p the faults are tested in this order, and `Truncated` carries the input's length:
+//! At a head at offset p the faults are tested in this order, and `Truncated` carries the input's length:
 //!
 //! 1. there is no byte: `Truncated`;
 //! 2. major type 7 with a first byte other than `f4`, `f5`, `f6` and `fb`: `BadSimple` at p; `fb` without eight
-//!    bytes behind it: `Truncated`;
+//!    bytes after it: `Truncated`;
 //! 3. a byte string, text, array or map without a length: `Indefinite` at p;
 //! 4. another reserved form of the argument: `LongHead` at p;
 //! 5. bytes of the argument are missing: `Truncated`;
@@ -24,8 +24,8 @@
 //! 8. content of a byte string or a text is missing: `Truncated`;
 //! 9. with the items that an array or a map holds, more than 2^63 - 1 items are due: `CountTooLarge` at p.
 //!
-//! Behind tag 42 the faults of the next head come first, at their own places; then, where that is no byte
-//! string or its content is not the byte 00 and one whole CID, `BadLink` at the tag. Bytes behind the item are
+//! After tag 42 the faults of the next head come first, at their own offsets; then, where that is no byte
+//! string or its content is not the byte 00 and one whole CID, `BadLink` at the tag. Bytes after the item are
 //! `Trailing` at the first of them.
 #![tactic(auto)]
 

@@ -61,7 +61,7 @@ impl Iterator for Links<'_> {
     }
 }
 
-// The first link of the parts that the bytes are, and what is behind it.
+// The first link of the parts that the bytes are, and what is after it.
 fn next_link(bytes: &[u8]) -> Option<(Cid, &[u8])>
     ensures some { IfSome result (λ x. links_left bytes.now ≡ x.0 ∷ links_left x.1.now) }
     ensures none { IfNone result (links_left bytes.now ≡ []) }

@@ -14,7 +14,7 @@ use ss_cid::Cid;
 /// The most items that may be due.
 const MAX_DUE: u64 = (1 << 63) - 1;
 
-// So many bytes, and those behind them.
+// So many bytes, and those after them.
 #[tactic(auto, unfolding(crate::specs::Reading::bytes_at))]
 #[inline(always)]
 fn bytes_at(len: u64, end: usize, bytes: &[u8]) -> Result<(&[u8], &[u8]), CborFault>
@@ -27,7 +27,7 @@ fn bytes_at(len: u64, end: usize, bytes: &[u8]) -> Result<(&[u8], &[u8]), CborFa
     Ok(bytes.split_at(len as usize))
 }
 
-// The part of a head that holds items, behind which `due` items are due.
+// The part of a head that holds items, after which `due` items are due.
 #[tactic(auto, unfolding(crate::specs::Reading::holding))]
 #[inline(always)]
 fn holding<'a>(
@@ -46,7 +46,7 @@ fn holding<'a>(
     Ok((Some(part), bytes))
 }
 
-// What a head stands for, with its content. None is tag 42, behind which a link's bytes come.
+// What a head stands for, with its content. None is tag 42, after which a link's bytes come.
 #[tactic(auto, unfolding(crate::specs::Reading::content_at))]
 #[inline(always)]
 fn content_at<'a>(
@@ -103,7 +103,7 @@ fn simple_at<'a>(
     }
 }
 
-// One head with its content, behind which `due` items are due. None is tag 42.
+// One head with its content, after which `due` items are due. None is tag 42.
 #[tactic(auto, unfolding(crate::specs::Reading::piece_at))]
 #[inline(always)]
 fn piece_at<'a>(
@@ -139,7 +139,7 @@ fn is_cid(bytes: &[u8]) -> bool
     }
 }
 
-// The link that stands behind a tag 42 at the place `at`.
+// The link that stands after a tag 42 at the offset `at`.
 #[tactic(auto, unfolding(crate::specs::Reading::linked))]
 fn linked(at: usize, piece: Option<RawPart<'_>>) -> Result<RawPart<'_>, CborFault>
     ensures { Gives raw_part_of result (linked at (raw_piece_of piece.entry)) }
@@ -152,7 +152,7 @@ fn linked(at: usize, piece: Option<RawPart<'_>>) -> Result<RawPart<'_>, CborFaul
     Err(CborKind::BadLink.at(at))
 }
 
-// The part that a piece at the place `at` begins.
+// The part that a piece at the offset `at` begins.
 #[tactic(auto, unfolding(crate::specs::Reading::part_from))]
 #[inline(always)]
 fn part_from<'a>(
@@ -177,7 +177,7 @@ fn part_from<'a>(
     }
 }
 
-/// Reads the part that the bytes begin with, behind which `due` items are due: the part and what is behind it.
+/// Reads the part that the bytes begin with, after which `due` items are due: the part and what is after it.
 #[tactic(auto, unfolding(crate::specs::Reading::part_at))]
 #[inline(always)]
 pub fn part_at<'a>(

@@ -13,7 +13,7 @@ use crate::reading::part_at;
 ///
 /// An item is one of CBOR (RFC 8949) in shortest heads with DAG-CBOR's rules for links: the one tag is 42, over
 /// the byte 00 and one whole CID. Texts, keys and floats are not checked. Other bytes are refused with their
-/// first fault from the left and its place, in the order that the crate's page has; `Trailing` comes last.
+/// first fault from the left and its offset, in the order that the crate's page has; `Trailing` comes last.
 pub fn scan(bytes: &[u8]) -> Result<Links<'_>, CborFault>
     ensures accepts { (links : List (List ℕ)) → (result ≡ Ok links) ↔ IsItem bytes.now links }
     ensures refuses { (found : CborFault) → (result ≡ Err found) ↔ IsRefused bytes.now found }
@@ -34,7 +34,7 @@ fn links_of_item(bytes: &[u8]) -> Result<Links<'_>, CborFault>
     Ok(Links::of(bytes))
 }
 
-/// What follows the one item at the front.
+/// What follows the one item at the start.
 pub(crate) fn item_end(end: usize, bytes: &[u8]) -> Result<&[u8], CborFault>
     requires { length bytes.now ≤ end }
     ensures value { Gives (λ rest. rest.now) result (rest_at 1 end bytes.now) }

@@ -2,7 +2,7 @@
 use Rattle.std.proofs.Common.{◌≡◌, ℕ, zero, suc, ◌+◌, ◌^◌, ◌<◌, ◌≤◌, List, [], ◌++◌, length, Some, Result, Ok, refl, sym, ap, subst, ◌∙◌, append_assoc, arith, length-append}
 use Rattle.ss_cid.proofs.Chains.{bind-Ok, Ok-same}
 use Rattle.ss_cbor.specs.Item.{Part, uint, array, link, IsPart, none}
-use Rattle.ss_cbor.specs.Reading.{part_at, as_count, as_number, as_link}
+use Rattle.ss_cbor.specs.Reading.{part_at, as_count, as_number, as_link, count_from, number_from, link_from}
 use Rattle.ss_cbor.specs.Fault.{rest_at, item_at}
 use Rattle.ss_cbor.specs.declared.fault.CborFault.{CborFault}
 use Rattle.ss_cbor.proofs.Numbers.{IsBytes, IsBytes-right}
@@ -10,7 +10,7 @@ use Rattle.ss_cbor.proofs.Parts.{part_takes, part_again}
 use Rattle.ss_cbor.proofs.Rows.{Items-append, Items-split, Items-none}
 use Rattle.ss_cbor.proofs.Fronts.{item_spelled, item_again}
 use Rattle.ss_chain.specs.Header.{AreItems}
-use Rattle.ss_chain.specs.HeaderReading.{count_from, number_from, link_from, item_from, after_items}
+use Rattle.ss_chain.specs.HeaderReading.{item_from, after_items}
 use Rattle.ss_chain.proofs.Steps.{Some-same, bind-Some, result_ok-is}
 
 -- ---- what was read

@@ -7,7 +7,8 @@ use Rattle.ss_cid.specs.Cid.{codec_of}
 use Rattle.ss_cbor.specs.Item.{uint, link, head, IsPart}
 use Rattle.ss_cbor.proofs.Numbers.{IsBytes, IsBytes-left, IsBytes-right}
 use Rattle.ss_chain.specs.Header.{HeaderFields, IsHeader, AreItems, item_links}
-use Rattle.ss_chain.specs.HeaderReading.{count_from, number_from, link_from, item_from, after_items, has_only_links, fields_from, header_in, header_of}
+use Rattle.ss_cbor.specs.Reading.{count_from, number_from, link_from}
+use Rattle.ss_chain.specs.HeaderReading.{item_from, after_items, has_only_links, fields_from, header_in, header_of}
 use Rattle.ss_chain.proofs.Steps.{bind-Some, guarded, chosen, both}
 use Rattle.ss_chain.proofs.Fronts.{count-taken, number-taken, link-taken, item-taken, items-taken, count-again, number-again, link-again, item-again, items-again}
 use Rattle.ss_chain.proofs.LinkArrays.{array-is-item, links-are, only-links, only-links-again}

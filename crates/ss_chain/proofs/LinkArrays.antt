@@ -9,7 +9,8 @@ use Rattle.ss_cbor.proofs.Rows.{Items-few}
 use Rattle.ss_cbor.proofs.Readings.{one_reading, closed_items}
 use Rattle.ss_cbor.proofs.Scanned.{Ok-scanned}
 use Rattle.ss_chain.specs.Header.{AreItems, item_links}
-use Rattle.ss_chain.specs.HeaderReading.{count_from, link_from, leads_with_links, has_only_links}
+use Rattle.ss_cbor.specs.Reading.{count_from, link_from}
+use Rattle.ss_chain.specs.HeaderReading.{leads_with_links, has_only_links}
 use Rattle.ss_chain.proofs.Steps.{passes-is}
 use Rattle.ss_chain.proofs.Fronts.{count-taken, link-taken, count-again, link-again}
 

@@ -1,8 +1,9 @@
 -- Rows of links and of items, one after another.
 use Rattle.std.proofs.Common.{◌≡◌, ℕ, zero, suc, ◌+◌, ◌-◌, ◌<◌, ◌≤◌, true, false, List, Some, None, refl, sym, ◌∙◌, arith}
 use Rattle.ss_cbor.specs.Position.{Position}
-use Rattle.ss_chain.specs.HeaderReading.{link_from, item_from, leads_with_links, after_items}
-use Rattle.ss_cbor.specs.Position.{Reads, Passes}
+use Rattle.ss_cbor.specs.Reading.{link_from}
+use Rattle.ss_chain.specs.HeaderReading.{item_from, leads_with_links, after_items}
+use Rattle.ss_cbor.specs.Position.{Reads, Takes, Passes}
 
 -- ---- links
 
@@ -13,14 +14,14 @@ pub record LinksLeft (n i : ℕ) (first now : Position) : Type 0 where
   pub same : leads_with_links n first.end first.rest ≡ leads_with_links (n - i) now.end now.rest
 
 module _ (n i : ℕ) (first now : Position) (left : LinksLeft n i first now) where
-  pub links-next : (next : Position) (cid : List ℕ) → i < n → Reads {X = List ℕ} (λ cid. cid) link_from now next (Some cid) → LinksLeft n (i + 1) first next
+  pub links-next : (next : Position) (cid : List ℕ) → i < n → Takes {X = List ℕ} (λ cid. cid) link_from now next (Some cid) → LinksLeft n (i + 1) first next
   unfolding leads_with_links
   links-next next cid lt reads =
       let e : n - i ≡ suc (n - (i + 1)) = omega arith in
       let step : leads_with_links (n - i) now.end now.rest ≡ leads_with_links (n - (i + 1)) next.end next.rest = rw (e, reads.value, reads.end) refl in
       record { bound = omega arith; end = reads.end ∙ left.end; same = left.same ∙ step }
 
-  pub links-stop : (next : Position) → i < n → Reads {X = List ℕ} (λ cid. cid) link_from now next None → false ≡ leads_with_links n first.end first.rest
+  pub links-stop : (next : Position) → i < n → Takes {X = List ℕ} (λ cid. cid) link_from now next None → false ≡ leads_with_links n first.end first.rest
   unfolding leads_with_links
   links-stop next lt reads =
       let e : n - i ≡ suc (n - (i + 1)) = omega arith in

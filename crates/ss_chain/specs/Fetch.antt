@@ -1,5 +1,5 @@
 -- Fetching a block: an identity CID's is its digest, which needs no store; another's is what is kept for it.
-use Rattle.std.specs.Prelude.{◌≡◌, ℕ, ◌+◌, ◌-◌, ◌^◌, ◌≤◌, ◌==◌, min, ◌||◌, if◌then◌else◌, Bool, true, false, List, Option, Some, ⊤}
+use Rattle.std.specs.Prelude.{◌≡◌, ℕ, ◌==◌, ◌||◌, if◌then◌else◌, Bool, true, false, List, Option, Some, ⊤}
 use Rattle.std.specs.FinMap as map
 use Rattle.ss_cid.specs.{Cid.{hash_of, digest_of}, Maps.Kept}
 use Rattle.ss_chain.specs.declared.fetched.Fetched.{Fetched}
@@ -30,11 +30,6 @@ abbrev pub IsDigest : List ℕ → Fetched → Type 0
 IsDigest cid (Fetched.Found block) = is_identity cid ≡ true → block ≡ digest_of cid
 IsDigest cid _ = ⊤
 
--- the count of faults is greater than before, or stands at the last value of its type
-abbrev pub Rose : ℕ → ℕ → Type 0
-Rose before now = min (before + 1) (2 ^ 64 - 1) ≤ now
-
--- the count of faults rose in a fetch that answered Fault, and stayed in every other
-abbrev pub HasCause : ℕ → ℕ → Fetched → Type 0
-HasCause before now Fetched.Fault = (before ≤ now) × Rose before now
-HasCause before now _ = now ≡ before
+-- the answer of a fetch that failed
+abbrev pub IsFault : Fetched → Type 0
+IsFault fetched = fetched ≡ Fetched.Fault

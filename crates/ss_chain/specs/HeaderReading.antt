@@ -1,18 +1,8 @@
 -- Reading a header from left to right: the fields, or nothing of a block that is none. `end` is the length of the whole block.
 use Rattle.std.specs.{Prelude.{ℕ, zero, suc, ◌^◌, ◌==◌, ◌&&◌, nat_lt, if◌then◌else◌, Bool, true, List, length, Option, Some, None}, Result.result_ok}
 use Rattle.ss_cid.specs.Cid.{codec_of}
-use Rattle.ss_cbor.specs.{Fault.item_at, Reading.{part_at, as_count, as_number, as_link}}
+use Rattle.ss_cbor.specs.{Fault.item_at, Reading.{count_from, number_from, link_from}}
 use Rattle.ss_chain.specs.{Header.{HeaderFields, item_links}, Steps.{◌>>=◌, passes}}
-
--- an array's head, a number or a link, and what follows it
-unfoldable pub count_from : ℕ → List ℕ → Option (ℕ × List ℕ)
-count_from end bytes = as_count (part_at 0 end bytes)
-
-unfoldable pub number_from : ℕ → List ℕ → Option (ℕ × List ℕ)
-number_from end bytes = as_number (part_at 0 end bytes)
-
-unfoldable pub link_from : ℕ → List ℕ → Option (List ℕ × List ℕ)
-link_from end bytes = as_link (part_at 0 end bytes)
 
 -- the bytes of the item at the front, and what follows it
 unfoldable pub item_from : ℕ → List ℕ → Option (List ℕ × List ℕ)

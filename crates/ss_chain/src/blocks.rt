@@ -2,7 +2,8 @@
 ghost use Rattle.std.specs.Prelude.{◌≡◌, ℕ, List, [], Bool, Option, Some};
 ghost use Rattle.std.specs.FinMap as map;
 ghost use Rattle.ss_cid.specs.Maps.{Kept};
-ghost use Rattle.ss_chain.specs.Fetch.{is_known, NotFoundUnless, IsFetched, IsDigest, HasCause};
+ghost use Rattle.ss_chain.specs.Fetch.{is_known, NotFoundUnless, IsFetched, IsDigest, IsFault};
+ghost use Rattle.ss_device.specs.Faults.{Counts};
 
 use crate::Fetched;
 use ss_cid::Cid;
@@ -34,7 +35,7 @@ pub trait Blocks {
         ensures digest { IsDigest cid.now result }
         ensures holds { holds self.new ≡ holds self.old }
         ensures told { told self.new ≡ told self.old }
-        ensures cause { HasCause (faults self.old) (faults self.new) result }
+        ensures cause { Counts IsFault (faults self.old) (faults self.new) result }
         ensures place { place self.new ≡ place self.old };
 
     /// How often a fetch has failed, up to 2^64 - 1.

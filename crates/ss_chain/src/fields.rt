@@ -1,52 +1,9 @@
 //! Reading the items of a header from left to right.
 ghost use Rattle.std.specs.Prelude.{◌≡◌};
-ghost use Rattle.ss_chain.specs.HeaderReading.{count_from, number_from, link_from, item_from, after_items, leads_with_links, has_only_links};
+ghost use Rattle.ss_chain.specs.HeaderReading.{item_from, after_items, leads_with_links, has_only_links};
 ghost use Rattle.ss_cbor.specs.Position.{Reads, Passes};
 
-use ss_cbor::{Cursor, Item};
-use ss_cid::Cid;
-
-/// Reads the head of an array, and gives how many items follow.
-#[tactic(auto, unfolding(crate::specs::HeaderReading::count_from))]
-pub fn next_count(cursor: &mut Cursor<'_>) -> Option<u64>
-    ensures { Reads (λ n. n) count_from cursor.old cursor.new result }
-{
-    match cursor.next() {
-        Ok(item) => match item {
-            Item::Array(n) => Some(n),
-            _ => None,
-        },
-        Err(_) => None,
-    }
-}
-
-/// Reads a number.
-#[tactic(auto, unfolding(crate::specs::HeaderReading::number_from))]
-pub fn next_number(cursor: &mut Cursor<'_>) -> Option<u64>
-    ensures { Reads (λ n. n) number_from cursor.old cursor.new result }
-{
-    match cursor.next() {
-        Ok(item) => match item {
-            Item::Uint(n) => Some(n),
-            _ => None,
-        },
-        Err(_) => None,
-    }
-}
-
-/// Reads a link.
-#[tactic(auto, unfolding(crate::specs::HeaderReading::link_from))]
-pub fn next_link(cursor: &mut Cursor<'_>) -> Option<Cid>
-    ensures { Reads (λ cid. cid) link_from cursor.old cursor.new result }
-{
-    match cursor.next() {
-        Ok(item) => match item {
-            Item::Link(cid) => Some(cid),
-            _ => None,
-        },
-        Err(_) => None,
-    }
-}
+use ss_cbor::Cursor;
 
 /// Passes one item, and lends its bytes.
 #[tactic(auto, unfolding(crate::specs::HeaderReading::item_from))]
@@ -75,7 +32,7 @@ pub fn has_only_links(item: &[u8]) -> bool
     ensures { result ≡ has_only_links item.now }
 {
     let mut cursor = Cursor::new(item);
-    match next_count(&mut cursor) {
+    match cursor.array() {
         Some(n) => leads_with_links(&mut cursor, n),
         None => false,
     }
@@ -86,7 +43,7 @@ fn leads_with_links(cursor: &mut Cursor<'_>, n: u64) -> bool
     ensures { result ≡ leads_with_links n cursor.old.end cursor.old.rest }
 {
     for _ in 0..n {
-        let Some(_) = next_link(cursor) else {
+        let Some(_) = cursor.link() else {
             return false;
         };
     }

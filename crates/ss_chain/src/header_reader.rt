@@ -4,7 +4,7 @@ ghost use Rattle.ss_chain.specs.Header.{fields, HeaderFields, IsHeader};
 ghost use Rattle.ss_chain.specs.HeaderReading.{fields_from, header_in, header_of};
 
 use crate::Header;
-use crate::fields::{has_only_links, next_count, next_item, next_link, next_number, pass_items};
+use crate::fields::{has_only_links, next_item, pass_items};
 use ss_cbor::Cursor;
 use ss_cid::{Cid, Codec};
 
@@ -37,7 +37,7 @@ fn header_in(block: &[u8]) -> Option<Header<'_>>
     ensures { option_map fields result ≡ header_in (length block.now) block.now }
 {
     let mut cursor = Cursor::new(block);
-    if next_count(&mut cursor)? != ITEMS {
+    if cursor.array()? != ITEMS {
         return None;
     }
     read_fields(&mut cursor)
@@ -53,10 +53,10 @@ fn read_fields<'a>(cursor: &mut Cursor<'a>) -> Option<Header<'a>>
     let above = next_item(cursor)?;
     // ParentWeight
     pass_items(cursor, 1)?;
-    let height = next_number(cursor)?;
-    let state = next_link(cursor)?;
-    let receipts = next_link(cursor)?;
-    let messages = next_link(cursor)?;
+    let height = cursor.uint()?;
+    let state = cursor.link()?;
+    let receipts = cursor.link()?;
+    let messages = cursor.link()?;
     // BLSAggregate, Timestamp, BlockSig, ForkSignaling, ParentBaseFee
     pass_items(cursor, 5)?;
     if !cursor.is_at_end() || height >= HEIGHT_END || !has_only_links(above) {

@@ -1,7 +1,8 @@
 //! Blocks in memory, for tests.
 ghost use Rattle.std.specs.Prelude.{◌≡◌, ◌++◌, ◌∷◌, [], Some, OnOk, OnErr, option_copied};
 ghost use Rattle.std.specs.FinMap as map;
-ghost use Rattle.ss_chain.specs.Fetch.{fetched, is_known, NotFoundUnless, IsFetched, IsDigest, HasCause};
+ghost use Rattle.ss_chain.specs.Fetch.{fetched, is_known, NotFoundUnless, IsFetched, IsDigest, IsFault};
+ghost use Rattle.ss_device.specs.Faults.{Counts};
 ghost use Rattle.ss_chain.specs.Parcel.{kept_of, same_keys, fresh, after_fetch, IsListed, FailsWhere};
 
 use crate::{Blocks, Fetched};
@@ -64,7 +65,7 @@ impl Blocks for ParcelBlocks {
         ensures not_found { NotFoundUnless (is_known (map.contains_key (kept_of self.old.blocks)) cid.now) result }
         ensures found { IsFetched (Some (kept_of self.old.blocks)) cid.now result }
         ensures digest { IsDigest cid.now result }
-        ensures cause { HasCause self.old.faults self.new.faults result }
+        ensures cause { Counts IsFault self.old.faults self.new.faults result }
 
         ensures fails { FailsWhere (IsListed self.old) result }
         ensures after { self.new ≡ after_fetch self.old result }

@@ -1,7 +1,7 @@
 -- CIDs read and written.
 use Rattle.std.proofs.Common.{◌≡◌, ℕ, ◌+◌, ◌<◌, ◌≤◌, ◌^◌, false, eqb, ltb, List, [], ◌++◌, length, take, get_or, All, Ok, refl, ap, ap₂, sym, ◌∙◌, arith}
 use Rattle.ss_cid.specs.Varint.{varint, varint_at}
-use Rattle.ss_cid.specs.Cid.{cid_bytes, version_end, digest_end, cid_head, cid_len, IsCid}
+use Rattle.ss_cid.specs.Cid.{cid_bytes, version_end, digest_end, cid_head, cid_len, hash_of, part_of, IsCid}
 use Rattle.ss_cid.specs.declared.fault.CidFault.TheVariants.{Short, NotV1, TooLong}
 use Rattle.ss_cid.specs.declared.head.Head.{Head}
 use Rattle.ss_cid.proofs.Chains.{bind-Ok, guard-Ok, chosen-Ok, Ok-same}
@@ -164,6 +164,13 @@ IsCid-take bytes head small h =
       whole = cid_len-take bytes head.end len;
       bytes = All-take (λ b. b < 256) head.end bytes (All-from_get_or (λ b. b < 256) bytes 0 (λ i _. small i));
     }
+
+-- and its hash function
+pub hash_of-take : (bytes : List ℕ) (head : Head) → cid_head bytes ≡ Ok head → hash_of (take head.end bytes) ≡ head.hash
+unfolding hash_of
+hash_of-take bytes head h =
+    let same : take head.end bytes ≡ take head.end (take head.end bytes) = sym (take-take head.end head.end bytes (omega arith)) in
+    ap (part_of (λ head. head.hash)) (cid_head-from_Parts (take head.end bytes) head (Parts-front bytes (take head.end bytes) head (Parts-from_cid_head bytes head h) same))
 
 -- ---- a CID that is written
 

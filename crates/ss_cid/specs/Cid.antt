@@ -8,13 +8,13 @@ unfoldable pub cid_bytes : ℕ → ℕ → List ℕ → List ℕ
 cid_bytes codec hash digest =
     varint 1 ++ (varint codec ++ (varint hash ++ (varint (length digest) ++ digest)))
 
--- the place behind the version, which has to be 1
+-- the offset after the version, which has to be 1
 unfoldable pub version_end : List ℕ → Result ℕ CidFault
 version_end bytes = do
   version ← varint_at bytes 0
   if version.0 == 1 then Ok version.1 else Err (CidFault.NotV1 version.0)
 
--- the place behind a digest of so many bytes that begins at a place, within 72 bytes and within the input
+-- the offset after a digest of so many bytes that begins at an offset, within 72 bytes and within the input
 unfoldable pub digest_end : List ℕ → ℕ → ℕ → Result ℕ CidFault
 digest_end bytes len at =
     if nat_lt 72 (at + len) then Err (CidFault.TooLong len)

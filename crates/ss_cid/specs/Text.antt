@@ -15,7 +15,7 @@ good_letters letters = position_or_len (λ c. not (is_letter c)) letters
 abbrev pub is_cut : ℕ → Bool
 is_cut count = (count % 8 == 1) || (count % 8 == 3) || (count % 8 == 6)
 
--- the bytes that the characters behind the `b` spell, or the first fault
+-- the bytes that the characters after the `b` spell, or the first fault
 unfoldable pub letters_bytes : List ℕ → Result (List ℕ) CidFault
 letters_bytes letters =
     let count = length letters in

@@ -4,7 +4,7 @@
 use Rattle.std.specs.{Prelude.{ℕ, zero, suc, ◌+◌, ◌*◌, ◌/◌, ◌%◌, ◌==◌, nat_lt, if◌then◌else◌, ◌&&◌, List, [], ◌∷◌, length, take, drop, slice_index, Result, Ok, Err}, List.position_or_len}
 use Rattle.ss_cid.specs.declared.fault.CidFault.{CidFault}
 
--- the bytes of a number that has at most so many groups behind the first
+-- the bytes of a number that has at most so many groups after the first
 unfoldable pub groups_of : ℕ → ℕ → List ℕ
 groups_of zero n = n ∷ []
 groups_of (suc more) n = if nat_lt n 128 then n ∷ [] else (n % 128 + 128) ∷ groups_of more (n / 128)
@@ -22,7 +22,7 @@ groups_value (b ∷ bs) = b % 128 + 128 * groups_value bs
 abbrev pub high_count : List ℕ → ℕ
 high_count bytes = position_or_len (λ b. nat_lt b 128) (take 9 bytes)
 
--- the varint at a place of the bytes: its number and the place behind it, or why there is none
+-- the varint at an offset of the bytes: its number and the offset after it, or why there is none
 unfoldable pub varint_at : List ℕ → ℕ → Result (ℕ × ℕ) CidFault
 varint_at bytes at = varint_to bytes at (drop at bytes) (high_count (drop at bytes)) where
   varint_to : List ℕ → ℕ → List ℕ → ℕ → Result (ℕ × ℕ) CidFault

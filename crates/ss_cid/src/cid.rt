@@ -1,5 +1,5 @@
 //! Content identifiers.
-ghost use Rattle.std.specs.Prelude.{◌≡◌, ℕ, ◌+◌, ◌<◌, ◌≤◌, ◌^◌, ◌++◌, length, drop, IfOk};
+ghost use Rattle.std.specs.Prelude.{◌≡◌, ℕ, ◌+◌, ◌<◌, ◌≤◌, ◌^◌, ◌++◌, length, take, drop, Ok, Err, IfOk, MatchResult};
 ghost use Rattle.std.specs.Ordering.{nat_cmp};
 ghost use Rattle.std.specs.Cmp.Lexicographic.{slice_cmp};
 ghost use Rattle.std.specs.Option.{option_copied};
@@ -52,7 +52,7 @@ impl Cid {
     /// Reads the CID that `bytes` begin with, and tells how many bytes it takes. Others may follow.
     ///
     /// It goes from left to right: the faults of the version's varint, `NotV1` where it is not 1,
-    /// and the faults of the varints of codec, hash code and digest length, each at its own place.
+    /// and the faults of the varints of codec, hash code and digest length, each at its own offset.
     /// Then `TooLong` with the digest's length where the CID would pass 72 bytes, and else `Short`
     /// with the input's length where the digest is not all there.
     #[tactic(auto, unfolding(crate::specs::Cid::cid_at, crate::specs::Cid::cid_len))]
@@ -62,9 +62,33 @@ impl Cid {
         ensures within { IfOk result (λ found. (found.1 ≡ length found.0) × (found.1 ≤ length bytes.now)) }
     {
         let head = read_head(bytes)?;
+        Ok((Cid::with_head(bytes, head), head.end))
+    }
+
+    /// Reads the CID that `bytes` begin with, as [`Cid::parse`] does, and tells which hash function made its digest. So the
+    /// bytes of a CID that is judged by it are read once.
+    #[tactic(auto, unfolding(crate::specs::Cid::cid_at, crate::specs::Cid::cid_len))]
+    pub fn parse_hashed(bytes: &[u8]) -> Result<(Cid, HashCode), CidFault>
+        ensures value { MatchResult result (λ found. cid_at bytes.now ≡ Ok (found.0, length found.0)) (λ fault. cid_at bytes.now ≡ Err fault) }
+        ensures hash_code { IfOk result (λ found. found.1 ≡ hash_named (hash_of found.0)) }
+        ensures within { IfOk result (λ found. length found.0 ≤ length bytes.now) }
+    {
+        let head = read_head(bytes)?;
+        Ok((Cid::with_head(bytes, head), HashCode::from(head.hash)))
+    }
+
+    /// The CID that `bytes` begin with, whose parts these are.
+    fn with_head(bytes: &[u8], head: Head) -> Cid
+        requires parts { cid_head bytes.now ≡ Ok head }
+        requires within { (head.end ≤ 72) × (head.end ≤ length bytes.now) }
+        ensures value { result ≡ take head.end bytes.now }
+        ensures len { length result ≡ head.end }
+        ensures cid { IsCid result }
+        ensures hash { hash_of result ≡ head.hash }
+    {
         let mut room = CidBuffer::new();
         room.extend(&bytes[..head.end]);
-        Ok((Cid { room }, head.end))
+        Cid { room }
     }
 
     /// The CID with this codec, hash code and digest. Its one fault is `TooLong` with the digest's
@@ -90,7 +114,7 @@ impl Cid {
     ///
     /// The first of these is the fault: `BadText` at 0 where the text does not begin with `b`; at
     /// 117 where it has more than 117 characters; at the first character outside the alphabet; at
-    /// the text's length where the last character belongs to no byte (1, 3 or 6 modulo 8 behind the
+    /// the text's length where the last character belongs to no byte (1, 3 or 6 modulo 8 after the
     /// `b`); at the last character where its unused bits are not zero; the faults of [`Cid::parse`]
     /// on the bytes; `BadText` at the text's length where bytes are left over.
     #[tactic(auto, unfolding(crate::specs::Text::cid_from_text))]
@@ -106,7 +130,7 @@ impl Cid {
         Ok(cid)
     }
 
-    /// Writes the text of the CID to the front of `out`, and tells how many characters it has. The
+    /// Writes the text of the CID to the start of `out`, and tells how many characters it has. The
     /// rest of `out` stays.
     pub fn write_text(&self, out: &mut [u8; 120]) -> usize
         ensures value { out.new ≡ cid_text self.now ++ drop result out.old }
@@ -199,7 +223,7 @@ impl Cid {
     }
 }
 
-/// What stands in front of a digest of `len` bytes.
+/// What stands before a digest of `len` bytes.
 fn prefix(codec: u64, hash: u64, len: u64) -> CidBuffer
     requires codec_fits { codec < 2 ^ 63 }
     requires hash_fits { hash < 2 ^ 63 }

@@ -9,7 +9,7 @@ use crate::varint::write_varint;
 use std::cmp::Ordering;
 use std::marker::Model;
 
-/// At most 72 bytes that lie in the value itself. The cells behind them are zero.
+/// At most 72 bytes that lie in the value itself. The cells after them are zero.
 #[derive(Clone, Copy)]
 pub struct CidBuffer {
     cells: [u8; 72],
@@ -116,7 +116,7 @@ fn compare_cells(cells: &[u8; 72], others: &[u8; 72]) -> Ordering
     Ordering::Equal
 }
 
-/// The eight cells from the place `at` on as a number, the first the most significant.
+/// The eight cells from the offset `at` on as a number, the first the most significant.
 fn word_at(cells: &[u8; 72], at: usize) -> u64
     requires { at ≤ 64 }
     ensures { result ≡ number_from_digits 256 (take 8 (drop at cells.now)) }

@@ -59,7 +59,7 @@ impl Cids {
         self.list.is_empty()
     }
 
-    /// The CID at place `i`, counted from 0.
+    /// The CID at index `i`, counted from 0.
     pub fn at(&self, i: usize) -> Cid
         requires { i < length self.now }
         ensures { slice_get self.now i ≡ Some result }

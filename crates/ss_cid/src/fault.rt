@@ -5,12 +5,12 @@ ghost use Rattle.ss_cid.specs.Cid.{number_of};
 use std::error::Error;
 use std::fmt;
 
-/// Why bytes are no CID, or no varint, or a text is no CID's text. Places count bytes from 0.
+/// Why bytes are no CID, or no varint, or a text is no CID's text. Offsets count bytes from 0.
 #[derive(Clone, Copy, Debug, PartialEq, Eq, Hash)]
 pub enum CidFault {
     /// The input ends early; `at` is its length.
     Short { at: usize },
-    /// A varint has more than nine bytes or is not in its shortest form; `at` is the place of its
+    /// A varint has more than nine bytes or is not in its shortest form; `at` is the offset of its
     /// first byte.
     LongVarint { at: usize },
     /// The version is not 1. A CID of version 0 begins with the byte 18, which counts as version
@@ -18,7 +18,7 @@ pub enum CidFault {
     NotV1 { version: u64 },
     /// The CID would have more than 72 bytes; `len` is the length of its digest.
     TooLong { len: u64 },
-    /// The text does not spell a CID; `at` is the place of the character at fault, or the text's
+    /// The text does not spell a CID; `at` is the offset of the character at fault, or the text's
     /// length.
     BadText { at: usize },
 }

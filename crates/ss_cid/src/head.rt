@@ -1,4 +1,4 @@
-//! What stands in front of a CID's digest.
+//! What stands before a CID's digest.
 ghost use Rattle.std.specs.Prelude.{◌≡◌, ◌≤◌, length, IfOk};
 ghost use Rattle.ss_cid.specs.Cid.{cid_head, version_end, digest_end};
 
@@ -15,9 +15,9 @@ pub struct Head {
     pub codec: u64,
     /// The hash function's number.
     pub hash: u64,
-    /// The place of the digest.
+    /// The offset of the digest.
     pub digest_at: usize,
-    /// The place behind the digest.
+    /// The offset after the digest.
     pub end: usize,
 }
 
@@ -40,7 +40,7 @@ pub fn read_head(bytes: &[u8]) -> Result<Head, CidFault>
     })
 }
 
-/// The place behind the version.
+/// The offset after the version.
 #[tactic(auto, unfolding(crate::specs::Cid::version_end))]
 fn read_version(bytes: &[u8]) -> Result<usize, CidFault>
     ensures value { result ≡ version_end bytes.now }
@@ -53,7 +53,7 @@ fn read_version(bytes: &[u8]) -> Result<usize, CidFault>
     Ok(end)
 }
 
-/// The place behind a digest of `len` bytes at the place `at`.
+/// The offset after a digest of `len` bytes at the offset `at`.
 #[tactic(auto, unfolding(crate::specs::Cid::digest_end))]
 fn digest_end(bytes: &[u8], len: u64, at: usize) -> Result<usize, CidFault>
     requires { at ≤ length bytes.now }

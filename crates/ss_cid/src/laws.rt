@@ -36,7 +36,7 @@ pub fn a_cid_is_read_again()
     ensures { (c rest : List ℕ) → IsCid c → cid_at (c ++ rest) ≡ Ok (c, length c) }
 {}
 
-/// What is read is a CID, and stands in front of what is left.
+/// What is read is a CID, and stands before what is left.
 pub fn what_is_read_is_a_cid()
     ensures { (bytes c : List ℕ) (n : ℕ) → All (λ b. b < 256) bytes → cid_at bytes ≡ Ok (c, n)
         → IsCid c × (n ≡ length c) × (bytes ≡ c ++ drop n bytes) }

@@ -69,6 +69,14 @@ impl Parcel {
         Ok(())
     }
 
+    /// Takes all blocks away. Their memory stays, for those that are added next.
+    pub fn clear(&mut self)
+        ensures { self.new ≡ [] }
+    {
+        self.entries.clear();
+        self.buffer.clear();
+    }
+
     /// How many blocks there are.
     pub fn len(&self) -> usize
         ensures value { result ≡ length self.now }
@@ -85,7 +93,7 @@ impl Parcel {
         self.entries.is_empty()
     }
 
-    /// The block at place `i`, counted from 0: its CID, and its bytes, which are lent.
+    /// The block at index `i`, counted from 0: its CID, and its bytes, which are lent.
     pub fn at(&self, i: usize) -> (Cid, &[u8])
         requires { i < length self.now }
         ensures { slice_get self.now i ≡ Some (result.0, result.1.now) }

@@ -13,7 +13,7 @@ const SIGN: u8 = b'b';
 /// The most characters that a CID's text has.
 const MAX_TEXT: usize = 117;
 
-/// Writes the text of a CID's bytes to the front of `out`, and tells how many characters it has.
+/// Writes the text of a CID's bytes to the start of `out`, and tells how many characters it has.
 pub fn write_text(bytes: &[u8], out: &mut [u8; 120]) -> usize
     requires { length bytes.now ≤ 72 }
     ensures value { out.new ≡ cid_text bytes.now ++ drop result out.old }
@@ -31,8 +31,8 @@ pub fn write_text(bytes: &[u8], out: &mut [u8; 120]) -> usize
     count + 1
 }
 
-/// Makes sure that there are bits for a character: those of the byte at place `taken`, and zeros
-/// behind the last byte.
+/// Makes sure that there are bits for a character: those of the byte at offset `taken`, and zeros
+/// after the last byte.
 fn refill(bits: &mut Bits, bytes: &[u8], taken: usize) -> usize
     requires few { bits.old.len < 8 }
     requires small { taken < 2 ^ 32 }
@@ -77,7 +77,7 @@ pub fn read_text(text: &[u8]) -> Result<CidBuffer, CidFault>
     read_letters(letters)
 }
 
-/// The bytes that the characters behind the sign spell.
+/// The bytes that the characters after the sign spell.
 fn read_letters(letters: &[u8]) -> Result<CidBuffer, CidFault>
     requires { length letters.now ≤ 116 }
     ensures { result ≡ letters_bytes letters.now }

@@ -19,7 +19,7 @@ pub fn read_varint(bytes: &[u8]) -> Result<(u64, usize), CidFault>
     varint_at(bytes, 0)
 }
 
-/// Reads the varint at the place `at`: its number, and the place behind it.
+/// Reads the varint at the offset `at`: its number, and the offset after it.
 pub(crate) fn varint_at(bytes: &[u8], at: usize) -> Result<(u64, usize), CidFault>
     requires { at ≤ length bytes.now }
     ensures value { result ≡ varint_at bytes.now at }
@@ -44,7 +44,7 @@ pub(crate) fn varint_at(bytes: &[u8], at: usize) -> Result<(u64, usize), CidFaul
     Err(CidFault::LongVarint { at })
 }
 
-/// Writes the varint of `n` to the front of `out`, and tells how many bytes it has. The rest of
+/// Writes the varint of `n` to the start of `out`, and tells how many bytes it has. The rest of
 /// `out` stays.
 pub fn write_varint(n: u64, out: &mut [u8; 9]) -> usize
     requires { n < 2 ^ 63 }

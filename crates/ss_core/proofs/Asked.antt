@@ -4,14 +4,13 @@ use Rattle.std.specs.Prelude.{is_some, nat_le, option_map}
 use Rattle.std.specs.FinMap as finite_map
 use Rattle.std.specs.FinSet as finite_set
 use Rattle.ss_chain.specs.Steps.{passes}
-use Rattle.ss_disk.specs.declared.disk.Disk.{Ghosts}
+use Rattle.ss_device.specs.declared.disk.Disk.{Ghosts}
 use Rattle.ss_records.specs.declared.record.Config.{Config as Settings}
-use Rattle.ss_records.specs.declared.record.Record.{Record}
 use Rattle.ss_model.specs.State.{State}
 use Rattle.ss_model.specs.Lawful.{info_of, is_due}
 use Rattle.ss_model.specs.declared.call.Info.{Info}
 use Rattle.ss_core.specs.declared.split_core.SplitCore.{SplitCore}
-use Rattle.ss_core.specs.StandsFor.{StandsFor}
+use Rattle.ss_core.specs.StandsFor.{Doubt, StandsFor}
 use Rattle.ss_core.proofs.HotCount.{same_count}
 use Rattle.ss_core.proofs.PutSteps.{count_is}
 
@@ -30,7 +29,7 @@ due_is base threshold (Some h) = refl
 due_is base threshold None = refl
 
 -- what the store tells of itself
-pub info_is : {D : Type 0} (disk : Ghosts D) (core : SplitCore D disk) (s : State) (doubt : Option Record) (config : Settings) (height : Option ℕ) (base ended kept views : ℕ) (due : Bool) → StandsFor core s doubt → config ≡ core.hot.settings
+pub info_is : {D : Type 0} (disk : Ghosts D) (core : SplitCore D disk) (s : State) (doubt : Doubt) (config : Settings) (height : Option ℕ) (base ended kept views : ℕ) (due : Bool) → StandsFor core s doubt → config ≡ core.hot.settings
     → height ≡ option_map (λ h. h.0) core.hot.head → (base, ended) ≡ core.hot.base → kept ≡ finite_map.len core.hot.places → views ≡ finite_set.len core.views → due ≡ passes (λ h. nat_le (base + config.threshold) h) height
     → ◌≡◌ {A = Info} (record { config = config; height = height; base = base; ended = ended; hot = kept; kept = kept; views = views; running = false; due = due }) (info_of s)
 info_is disk core s doubt config height base ended kept views due stands config_is height_is base_is kept_is views_is due_is' =

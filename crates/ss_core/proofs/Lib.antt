@@ -6,7 +6,8 @@ mod Asked
 pub mod Idle
 pub mod Images
 mod Judging
-mod Made
+mod LogFiles
+pub mod Made
 mod Marked
 mod NewPairs
 mod PutBytes

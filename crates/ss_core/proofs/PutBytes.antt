@@ -9,11 +9,12 @@ use Rattle.std.proofs.lemmas.Grind.{get_or-set_at}
 use Rattle.std.proofs.lemmas.List.{length-set, get_or-set_other}
 use Rattle.std.proofs.lemmas.List.Elements.{All-get_or}
 use Rattle.std.proofs.lemmas.Option.{slice_get_within, slice_get-get_or, get_or_from_slice_get}
-use Rattle.ss_store.specs.Places.{CidMap}
+use Rattle.ss_device.specs.declared.disk.Disk.{Ghosts}
 use Rattle.ss_store.specs.declared.place.Place.{Place}
 use Rattle.ss_hot.specs.Store.{Hot, AreNotHot}
 use Rattle.ss_model.specs.State.{Kept}
 use Rattle.ss_model.specs.Lawful.{pair_bytes, put_bytes, written_bytes, body_bytes, length_of}
+use Rattle.ss_core.specs.declared.split_core.SplitCore.{SplitCore}
 use Rattle.ss_core.specs.Replies.{held_bytes, held_put_bytes}
 
 -- a sum over the pairs before a place, one pair further
@@ -25,8 +26,8 @@ pub bytes_more : (kept : Kept) (pairs : List (List ℕ × List ℕ)) (i : ℕ) (
 bytes_more kept pairs i p bytes one more top at before here is = omega (arith, sum_next (pair_bytes kept) pairs i p at, here, before, is)
 
 -- by the places of the blocks that are kept
-pub held_more : (places : CidMap Place) (pairs : List (List ℕ × List ℕ)) (i : ℕ) (p : List ℕ × List ℕ) (bytes one more top : ℕ) → slice_get pairs i ≡ Some p → bytes ≡ min (held_put_bytes places (take i pairs)) top → one ≡ held_bytes places p → more ≡ min (bytes + one) top → more ≡ min (held_put_bytes places (take (i + 1) pairs)) top
-held_more places pairs i p bytes one more top at before here is = omega (arith, sum_next (held_bytes places) pairs i p at, here, before, is)
+pub held_more : {D : Type 0} {disk : Ghosts D} (core : SplitCore D disk) (pairs : List (List ℕ × List ℕ)) (i : ℕ) (p : List ℕ × List ℕ) (bytes one more top : ℕ) → slice_get pairs i ≡ Some p → bytes ≡ min (held_put_bytes core (take i pairs)) top → one ≡ held_bytes core p → more ≡ min (bytes + one) top → more ≡ min (held_put_bytes core (take (i + 1) pairs)) top
+held_more core pairs i p bytes one more top at before here is = omega (arith, sum_next (held_bytes core) pairs i p at, here, before, is)
 
 -- the bytes of a put are at least those of a record of its pairs
 pub least_more : (pairs : List (List ℕ × List ℕ)) (i : ℕ) (p : List ℕ × List ℕ) (bytes one more top : ℕ) → slice_get pairs i ≡ Some p → min (body_bytes (take i pairs)) top ≤ bytes → written_bytes p ≤ one → more ≡ min (bytes + one) top → min (body_bytes (take (i + 1) pairs)) top ≤ more

@@ -2,9 +2,10 @@
 use Rattle.std.proofs.Common.{◌≡◌, ◌≢◌, ◌⊎◌, inl, inr, ⊎_elim, ℕ, ◌+◌, ◌<◌, ◌≤◌, Bool, true, false, List, [], ◌∷◌, ◌++◌, length, Option, None, Some, refl, sym, ap, subst, ◌∙◌, arith}
 use Rattle.std.specs.Prelude.{is_some, All}
 use Rattle.std.specs.FinMap as finite_map
-use Rattle.ss_disk.specs.declared.disk.Disk.{Ghosts}
-use Rattle.ss_disk.specs.Calls.{Leaves}
-use Rattle.ss_disk.proofs.Goes.{leaves_on}
+use Rattle.ss_device.specs.declared.disk.Disk.{Ghosts}
+use Rattle.ss_device.specs.Disk.{Files}
+use Rattle.ss_device.specs.Calls.{Leaves, LeavesFiles}
+use Rattle.ss_device.proofs.Goes.{leaves_wider}
 use Rattle.ss_gatelog.specs.GateLog.{HasEither}
 use Rattle.ss_records.specs.declared.record.Config.{Config as Settings}
 use Rattle.ss_records.specs.declared.record.Record.{Record}
@@ -18,21 +19,23 @@ use Rattle.ss_hot.specs.Store.{Hot, Keeps, SameButDoubt, AreNotHot, room_of}
 use Rattle.ss_hot.proofs.Grown.{head_from-push, base_from-push, tells_next}
 use Rattle.ss_hot.proofs.Places.{places_some, places_len}
 use Rattle.ss_model.specs.State.{State, Kept}
-use Rattle.ss_model.specs.Lawful.{new_pairs, with_blocks, with_hot, rows_after, body_bytes, pairs_need, after_put, IsPassed, IsAdmitted}
+use Rattle.ss_model.specs.Lawful.{new_pairs, written_pairs, with_blocks, with_hot, rows_after, body_bytes, pairs_need, after_put, IsPassed, IsAdmitted}
 use Rattle.ss_model.specs.declared.call.PutReply.TheVariants as put
 use Rattle.ss_model.specs.declared.call.Call.TheVariants as call
 use Rattle.ss_model.specs.declared.call.Answer.TheVariants as answer
 use Rattle.ss_model.proofs.Need.{record_takes}
 use Rattle.ss_core.specs.declared.split_core.SplitCore.{SplitCore}
 use Rattle.ss_core.specs.Calls.{Steps}
-use Rattle.ss_core.specs.Calls.{record_of, bytes_of, put_effect}
+use Rattle.ss_core.specs.Calls.{blocks_record, bytes_of, doubt_of, asking, writing, perhaps_writing}
 use Rattle.ss_core.specs.Replies.{IsLooked, cids_of, IsReady}
 use Rattle.ss_core.specs.declared.fresh.Looked.{Looked}
-use Rattle.ss_core.specs.StandsFor.{IsLeftBy, AreOfHalf, StandsFor, HasEitherState}
-use Rattle.ss_core.proofs.Idle.{leaves_wider, doubts_none, doubts_same, unwritten, idle, stands_anew}
+use Rattle.ss_core.specs.StandsFor.{IsLeftBy, AreOfHalf, StandsFor, HasEitherState, Doubt, no_doubt, appended}
+use Rattle.ss_core.proofs.Idle.{doubts_none, doubts_same, unwritten, idle, stands_anew}
 use Rattle.ss_core.proofs.Images.{has_closed, own_half, end_of}
-use Rattle.ss_core.proofs.Puts.{new_pairs_alike, new_again, cids_known, kept_more, hot_more, rows_more, fresh_fit, fresh_few, fresh_short, fresh_absent}
+use Rattle.ss_core.proofs.LogFiles.{leaves_hot, leaves_then}
+use Rattle.ss_core.proofs.Puts.{new_pairs_alike, new_again, written_are, cids_known, kept_more, hot_more, rows_more, fresh_fit, fresh_few, fresh_short, fresh_absent}
 use Rattle.ss_core.proofs.Settling.{keeps_sure}
+use Rattle.ss_core.specs.LogFiles.{hot_file, log_files}
 
 -- ---- the new blocks of a parcel that is ready
 
@@ -89,7 +92,7 @@ left_none settings records s pairs state is = record {
 
 -- ---- a store and the state that it stands for
 
-module _ {D : Type 0} (disk : Ghosts D) (core : SplitCore D disk) (s : State) (doubt : Option Record) (stands : StandsFor core s doubt) where
+module _ {D : Type 0} (disk : Ghosts D) (core : SplitCore D disk) (s : State) (doubt : Doubt) (stands : StandsFor core s doubt) where
   -- as many blocks are kept
   pub count_is : finite_map.len core.hot.places ≡ finite_map.len s.kept
   count_is = ap finite_map.len stands.keeps.tells.places ∙ places_len core.hot.log.file stands.records ∙ ap finite_map.len (sym stands.state.kept)
@@ -115,7 +118,7 @@ module _ {D : Type 0} (disk : Ghosts D) (core : SplitCore D disk) (s : State) (d
 
 -- ---- the steps
 
-takes : (fresh : List (List ℕ × List ℕ)) → 1 ≤ length fresh → record_of fresh ≡ Some (Put fresh)
+takes : (fresh : List (List ℕ × List ℕ)) → 1 ≤ length fresh → blocks_record fresh ≡ Some (record { file = hot_file; entry = Put fresh })
 takes [] some = absurd (omega (arith, some))
 takes (p ∷ fresh) some = refl
 
@@ -123,11 +126,11 @@ not_none : (fresh : List (List ℕ × List ℕ)) → 1 ≤ length fresh → fres
 not_none fresh some none = absurd (omega (arith, some, ap (λ (ps : List (List ℕ × List ℕ)). length ps) none))
 
 -- the bytes of the record of new blocks
-bytes_are : (pairs fresh : List (List ℕ × List ℕ)) → pairs ≡ fresh → 1 ≤ length fresh → bytes_of (record_of pairs) ≡ 5 + body_bytes fresh
-bytes_are pairs fresh is some = ap (λ (ps : List (List ℕ × List ℕ)). bytes_of (record_of ps)) is ∙ ap bytes_of (takes fresh some) ∙ omega (arith, record_takes fresh)
+bytes_are : (pairs fresh : List (List ℕ × List ℕ)) → pairs ≡ fresh → 1 ≤ length fresh → bytes_of (blocks_record pairs) ≡ 5 + body_bytes fresh
+bytes_are pairs fresh is some = ap (λ (ps : List (List ℕ × List ℕ)). bytes_of (blocks_record ps)) is ∙ ap bytes_of (takes fresh some) ∙ omega (arith, record_takes fresh)
 
 -- as a limit has them
-pub need_short : (fresh : List (List ℕ × List ℕ)) (top : ℕ) → 1 ≤ length fresh → 5 + body_bytes fresh ≤ top → bytes_of (record_of fresh) ≤ top
+pub need_short : (fresh : List (List ℕ × List ℕ)) (top : ℕ) → 1 ≤ length fresh → 5 + body_bytes fresh ≤ top → bytes_of (blocks_record fresh) ≤ top
 need_short fresh top some short = omega (arith, bytes_are fresh fresh refl some, short)
 
 -- so it is not refused for want of room
@@ -135,52 +138,56 @@ pub has_room : (old mid : Hot) (fresh : List (List ℕ × List ℕ)) (need room 
 has_room old mid fresh need room same fits need_is room_is full = omega (arith, record_takes fresh, ap room_of same, fits, need_is, room_is, full)
 
 -- there is a row for each block, and none for a new one is asked for
-pub none_few : {D : Type 0} (disk : Ghosts D) (s : State) (doubt : Option Record) (core : SplitCore D disk) → StandsFor core s doubt → finite_map.len core.hot.places + 0 ≤ core.hot.settings.rows
+pub none_few : {D : Type 0} (disk : Ghosts D) (s : State) (doubt : Doubt) (core : SplitCore D disk) → StandsFor core s doubt → finite_map.len core.hot.places + 0 ≤ core.hot.settings.rows
 none_few disk s doubt core stands = omega (arith, count_is disk core s doubt stands, stands.state.rows, ap (λ (c : Settings). c.rows) stands.state.config)
 
-module _ {D : Type 0} (disk : Ghosts D) (s : State) (doubt : Option Record) (v : ℕ) (pairs fresh : List (List ℕ × List ℕ)) (passed : IsPassed s v pairs) (is : new_pairs s.hot pairs ≡ fresh) where
+module _ {D : Type 0} (disk : Ghosts D) (s : State) (doubt : Doubt) (v : ℕ) (pairs fresh : List (List ℕ × List ℕ)) (passed : IsPassed s v pairs) (is : new_pairs s.hot pairs ≡ fresh) where
+  -- the record has them as they are
+  wrote : (core : SplitCore D disk) → StandsFor core s doubt → written_pairs s.kept s.hot pairs ≡ fresh
+  wrote core stands = written_are s.kept s.hot pairs stands.state.hot ∙ is
+
   -- the table or the log is full
   module _ (core : SplitCore D disk) (stands : StandsFor core s doubt) where
     pub table_is_full : (rows : ℕ) → rows ≡ finite_map.len core.hot.places + length fresh → core.hot.settings.rows < rows → Steps core core s doubt (call.Put v pairs) (answer.Put (put.TableFull rows))
     table_is_full rows rows_is many =
-        idle disk core core s doubt (call.Put v pairs) (answer.Put (put.TableFull rows)) refl refl (record { writes = refl; doubts = refl; needs = refl; settles = refl }) stands
+        idle disk core core s doubt (call.Put v pairs) (answer.Put (put.TableFull rows)) refl refl (record { settles = refl; stands = refl; roomy = refl }) stands
         (passed, rows_is ∙ sym (rows_are disk core s doubt stands pairs fresh is), omega (arith, many, ap (λ (c : Settings). c.rows) stands.state.config)) stands
 
     pub log_is_full : (file need room : ℕ) → 1 ≤ length fresh → finite_map.len core.hot.places + length fresh ≤ core.hot.settings.rows → file ≡ 0 → need ≡ 5 + body_bytes fresh → room < need → Steps core core s doubt (call.Put v pairs) (answer.Put (put.LogFull file need room))
     log_is_full file need room some few hot need_is full =
-        idle disk core core s doubt (call.Put v pairs) (answer.Put (put.LogFull file need room)) refl refl (record { writes = refl; doubts = refl; needs = refl; settles = refl }) stands
-        (admitted disk core s doubt stands pairs fresh is v passed few, hot, (λ none. not_none fresh some (sym is ∙ none)), need_is ∙ ap pairs_need (sym is), full) stands
+        idle disk core core s doubt (call.Put v pairs) (answer.Put (put.LogFull file need room)) refl refl (record { settles = refl; stands = refl; roomy = refl }) stands
+        (admitted disk core s doubt stands pairs fresh is v passed few, hot, (λ none. not_none fresh some (sym (wrote core stands) ∙ none)), need_is ∙ ap pairs_need (sym (wrote core stands)), full) stands
 
     pub no_memory : Steps core core s doubt (call.Put v pairs) (answer.Put put.NoMemory)
-    no_memory = idle disk core core s doubt (call.Put v pairs) (answer.Put put.NoMemory) refl refl (record { writes = refl; doubts = refl; needs = refl; settles = refl }) stands passed stands
+    no_memory = idle disk core core s doubt (call.Put v pairs) (answer.Put put.NoMemory) refl refl (record { settles = refl; stands = refl; roomy = refl }) stands passed stands
 
   -- the log was asked to be settled, and nothing was written
-  module _ (old new : SplitCore D disk) (stands : StandsFor old s doubt) (same : SameButDoubt old.hot new.hot) (leaves : Leaves disk old.hot.log.file (HasEitherState s doubt) old.disk new.disk) where
-    pub not_settled : finite_map.len old.hot.places + length fresh ≤ old.hot.settings.rows → bytes_of (record_of fresh) ≤ room_of old.hot → StandsFor new s doubt → Steps old new s doubt (call.Put v pairs) (answer.Put put.DiskFault)
+  module _ (old new : SplitCore D disk) (stands : StandsFor old s doubt) (same : SameButDoubt old.hot new.hot) (leaves : LeavesFiles disk log_files (HasEitherState s doubt) old.disk new.disk) where
+    pub not_settled : finite_map.len old.hot.places + length fresh ≤ old.hot.settings.rows → bytes_of (blocks_record fresh) ≤ room_of old.hot → StandsFor new s doubt → Steps old new s doubt (call.Put v pairs) (answer.Put put.DiskFault)
     not_settled few room after =
-        unwritten disk old new s doubt doubt (call.Put v pairs) (answer.Put put.DiskFault) (put_effect (new_pairs s.hot pairs) put.DiskFault) refl refl (omega (arith, ap (λ (ps : List (List ℕ × List ℕ)). bytes_of (record_of ps)) is, room))
-        (doubts_same (put_effect (new_pairs s.hot pairs) put.DiskFault) doubt refl) (ap (λ (h : Hot). h.log.end) same) leaves (admitted disk old s doubt stands pairs fresh is v passed few) after
+        unwritten disk old new s doubt doubt (call.Put v pairs) (answer.Put put.DiskFault) perhaps_writing refl refl (λ _. omega (arith, ap (λ (ps : List (List ℕ × List ℕ)). bytes_of (blocks_record ps)) (wrote old stands), room))
+        (doubts_same perhaps_writing _ doubt refl) (ap (λ (h : Hot). h.log.end) same) leaves (admitted disk old s doubt stands pairs fresh is v passed few) after
 
-    pub no_more_memory : StandsFor new s None → Steps old new s doubt (call.Put v pairs) (answer.Put put.NoMemory)
+    pub no_more_memory : StandsFor new s no_doubt → Steps old new s doubt (call.Put v pairs) (answer.Put put.NoMemory)
     no_more_memory after =
-        unwritten disk old new s doubt None (call.Put v pairs) (answer.Put put.NoMemory) (put_effect (new_pairs s.hot pairs) put.NoMemory) refl refl (omega arith)
-        (doubts_none (put_effect (new_pairs s.hot pairs) put.NoMemory) doubt refl) (ap (λ (h : Hot). h.log.end) same) leaves passed after
+        unwritten disk old new s doubt no_doubt (call.Put v pairs) (answer.Put put.NoMemory) asking refl refl (λ _. omega arith)
+        (doubts_none asking _ doubt refl) (ap (λ (h : Hot). h.log.end) same) leaves passed after
 
-    pub none_stored : fresh ≡ [] → StandsFor new s None → Steps old new s doubt (call.Put v pairs) (answer.Put (put.Stored 0))
+    pub none_stored : fresh ≡ [] → StandsFor new s no_doubt → Steps old new s doubt (call.Put v pairs) (answer.Put (put.Stored 0))
     none_stored none after =
-        unwritten disk old new s doubt None (call.Put v pairs) (answer.Put (put.Stored 0)) (put_effect (new_pairs s.hot pairs) (put.Stored 0)) refl (ap record_of (is ∙ none)) (omega (arith, ap (λ (ps : List (List ℕ × List ℕ)). bytes_of (record_of ps)) (is ∙ none)))
-        (doubts_none (put_effect (new_pairs s.hot pairs) (put.Stored 0)) doubt refl) (ap (λ (h : Hot). h.log.end) same) leaves (
+        unwritten disk old new s doubt no_doubt (call.Put v pairs) (answer.Put (put.Stored 0)) writing refl (ap (λ (ps : List (List ℕ × List ℕ)). bytes_of (blocks_record ps)) (wrote old stands ∙ none)) (λ _. omega (arith, ap (λ (ps : List (List ℕ × List ℕ)). bytes_of (blocks_record ps)) (wrote old stands ∙ none)))
+        (doubts_none writing _ doubt refl) (ap (λ (h : Hot). h.log.end) same) leaves (
           admitted disk old s doubt stands pairs fresh is v passed (omega (arith, ap (λ (ps : List (List ℕ × List ℕ)). length ps) none, count_is disk old s doubt stands, stands.state.rows, ap (λ (c : Settings). c.rows) stands.state.config)),
           omega (arith, rows_are disk old s doubt stands pairs fresh is, count_is disk old s doubt stands, ap (λ (ps : List (List ℕ × List ℕ)). length ps) none),
         )
         (
         let left = left_none new.hot.settings after.records s pairs after.state (is ∙ none) in
-        stands_anew disk new new.hot.settings (after_put s pairs (put.Stored 0)) None after.records refl after.keeps left after.views after.doubt_is after.of_half left
+        stands_anew disk new new.hot.settings (after_put s pairs (put.Stored 0)) no_doubt after.records refl after.keeps left after.views after.doubt_is after.of_half left
         )
 
   -- The log was settled, and a record of the new blocks was written, or may have been.
   module _ (old mid new : SplitCore D disk) (stands : StandsFor old s doubt) (some : Fits (Put fresh)) (value : IsValue (Put fresh)) (few : finite_map.len old.hot.places + length fresh ≤ old.hot.settings.rows) (room : 5 + body_bytes fresh ≤ room_of old.hot) (same : SameButDoubt old.hot mid.hot)
-      (first : Leaves disk old.hot.log.file (HasEitherState s doubt) old.disk mid.disk) (settled : StandsFor mid s None) (settings : new.hot.settings ≡ mid.hot.settings) (viewed : new.views ≡ mid.views)
+      (first : LeavesFiles disk log_files (HasEitherState s doubt) old.disk mid.disk) (settled : StandsFor mid s no_doubt) (settings : new.hot.settings ≡ mid.hot.settings) (viewed : new.views ≡ mid.views)
       (second : (records : List Record) → Keeps disk mid.disk mid.hot records records → Leaves disk mid.hot.log.file (HasEither mid.hot.settings.limit (bodies records) (bodies (records ++ Put fresh ∷ []))) mid.disk new.disk) where
     abbrev more : List Record
     more = settled.records ++ Put fresh ∷ []
@@ -200,24 +207,23 @@ module _ {D : Type 0} (disk : Ghosts D) (s : State) (doubt : Option Record) (v :
     left_new = left_more mid.hot.settings settled.records s fresh fresh settled.state (ap (new_pairs s.hot) (sym is) ∙ new_again s.hot pairs ∙ is) small
 
     -- each image has a state with the new blocks, or one without
-    leaves_both : (Q : List ℕ → Type 0) → ((bytes : List ℕ) → HasEitherState s doubt bytes → Q bytes) → ((bytes : List ℕ) → HasEither mid.hot.settings.limit (bodies settled.records) (bodies more) bytes → Q bytes) → Leaves disk old.hot.log.file Q old.disk new.disk
-    leaves_both Q one two =
-        leaves_on disk old.hot.log.file Q old.disk mid.disk new.disk (leaves_wider disk old.hot.log.file (HasEitherState s doubt) Q old.disk mid.disk one first)
-        (leaves_wider disk old.hot.log.file (HasEither mid.hot.settings.limit (bodies settled.records) (bodies more)) Q mid.disk new.disk two
-        (subst (λ (file : ℕ). Leaves disk file (HasEither mid.hot.settings.limit (bodies settled.records) (bodies more)) mid.disk new.disk) (ap (λ (h : Hot). h.log.file) same) (second settled.records settled.keeps)))
+    leaves_either : (Q : Files → Type 0) → ((files : Files) → HasEitherState s doubt files → Q files) → ((files : Files) → HasEither mid.hot.settings.limit (bodies settled.records) (bodies more) (files hot_file) → Q files) → LeavesFiles disk log_files Q old.disk new.disk
+    leaves_either Q one two =
+        leaves_then disk Q old.disk mid.disk new.disk (leaves_wider disk log_files (HasEitherState s doubt) Q old.disk mid.disk one first)
+        (leaves_hot disk mid.hot.log.file (HasEither mid.hot.settings.limit (bodies settled.records) (bodies more)) Q mid.disk new.disk mid.file two (second settled.records settled.keeps))
 
     pub is_stored : (n : ℕ) → n ≡ length fresh → new.hot.log.end ≡ mid.hot.log.end + 5 + length (spelling (Put fresh)) → new.hot.log.unsure ≡ false → ((records : List Record) → Keeps disk mid.disk mid.hot records records → Keeps disk new.disk new.hot (records ++ Put fresh ∷ []) [])
         → Steps old new s doubt (call.Put v pairs) (answer.Put (put.Stored n))
     is_stored n n_is end sure kept = record {
       lawful = (admitted disk old s doubt stands pairs fresh is v passed few, omega (arith, rows_are disk old s doubt stands pairs fresh is, count_is disk old s doubt stands, n_is));
-      now = None;
-      doubts = doubts_none (put_effect (new_pairs s.hot pairs) (put.Stored n)) doubt refl;
-      after = stands_anew disk new mid.hot.settings (after_put s pairs (put.Stored n)) None more settings (keeps_sure disk new.disk new.hot more [] more sure (kept settled.records settled.keeps)) left_all (settled.views ∙ sym viewed) sure more_of_half left_all;
-      end = omega (arith, end, ap (λ (h : Hot). h.log.end) same, bytes_are (new_pairs s.hot pairs) fresh is some.0.0, record_takes fresh);
-      roomy = omega (arith, bytes_are (new_pairs s.hot pairs) fresh is some.0.0, room);
-      stops = leaves_both _ (λ bytes has. inl has) (λ bytes lists. ⊎_elim
-          (λ short. inl (inl (has_closed bytes mid.hot.settings settled.records s (own_half disk mid s None settled) settled.state short)))
-          (λ long. inr (inl (has_closed bytes mid.hot.settings more (after_put s pairs (put.Stored n)) more_of_half left_all long)))
+      now = no_doubt;
+      doubts = doubts_none writing _ doubt refl;
+      after = stands_anew disk new mid.hot.settings (after_put s pairs (put.Stored n)) no_doubt more settings (keeps_sure disk new.disk new.hot more [] more sure (kept settled.records settled.keeps)) left_all (settled.views ∙ sym viewed) sure more_of_half left_all;
+      end = omega (arith, end, ap (λ (h : Hot). h.log.end) same, bytes_are (written_pairs s.kept s.hot pairs) fresh (wrote old stands) some.0.0, record_takes fresh);
+      roomy = λ _. omega (arith, bytes_are (written_pairs s.kept s.hot pairs) fresh (wrote old stands) some.0.0, room);
+      stops = leaves_either _ (λ files has. inl has) (λ files lists. ⊎_elim
+          (λ short. inl (inl (has_closed files mid.hot.settings settled.records s (own_half disk mid s no_doubt settled) settled.state short)))
+          (λ long. inr (inl (has_closed files mid.hot.settings more (after_put s pairs (put.Stored n)) more_of_half left_all long)))
           lists);
     }
 
@@ -227,23 +233,23 @@ module _ {D : Type 0} (disk : Ghosts D) (s : State) (doubt : Option Record) (v :
         keeps : Keeps disk new.disk new.hot settled.records more
         keeps = kept settled.records settled.keeps
 
-        record_is : record_of (new_pairs s.hot pairs) ≡ Some (Put fresh)
-        record_is = ap record_of is ∙ takes fresh some.0.0
+        own_is : doubt_of (blocks_record (written_pairs s.kept s.hot pairs)) ≡ appended hot_file (Put fresh)
+        own_is = ap (λ (ps : List (List ℕ × List ℕ)). doubt_of (blocks_record ps)) (wrote old stands) ∙ ap doubt_of (takes fresh some.0.0)
 
-        step : (now : Option Record) → (now ≡ None) ⊎ (now ≡ Some (Put fresh)) → StandsFor new s now → Steps old new s doubt (call.Put v pairs) (answer.Put put.DiskFault)
+        step : (now : Doubt) → (now ≡ no_doubt) ⊎ (now ≡ appended hot_file (Put fresh)) → StandsFor new s now → Steps old new s doubt (call.Put v pairs) (answer.Put put.DiskFault)
         step now which after = record {
           lawful = admitted disk old s doubt stands pairs fresh is v passed few;
           now = now;
-          doubts = record { settled = λ no. absurd (let differ : ⊥ = cc (no) in differ); still = λ no. absurd (let differ : ⊥ = cc (no) in differ); one_of = ⊎_elim (λ none. inl none) (λ own. inr (inr (own ∙ sym record_is))) which };
+          doubts = record { settled = λ no. absurd (let differ : ⊥ = cc (no) in differ); still = λ no. absurd (let differ : ⊥ = cc (no) in differ); one_of = ⊎_elim (λ none. inl none) (λ own. inr (inr (own ∙ sym own_is))) which };
           after = after;
           end = omega (arith, ap (λ (h : Hot). h.log.end) same', ap (λ (h : Hot). h.log.end) same);
-          roomy = omega (arith, bytes_are (new_pairs s.hot pairs) fresh is some.0.0, room);
-          stops = leaves_both _ (λ bytes has. inl has) (λ bytes lists. ⊎_elim
-              (λ short. inl (inl (has_closed bytes mid.hot.settings settled.records s (own_half disk mid s None settled) settled.state short)))
-              (λ long. inr (subst (λ (r : Option Record). HasEitherState s r bytes) (sym record_is) (inr (has_closed bytes mid.hot.settings more (after_put s fresh (put.Stored 0)) more_of_half left_new long))))
+          roomy = λ _. omega (arith, bytes_are (written_pairs s.kept s.hot pairs) fresh (wrote old stands) some.0.0, room);
+          stops = leaves_either _ (λ files has. inl has) (λ files lists. ⊎_elim
+              (λ short. inl (inl (has_closed files mid.hot.settings settled.records s (own_half disk mid s no_doubt settled) settled.state short)))
+              (λ long. inr (subst (λ (d : Doubt). HasEitherState s d files) (sym own_is) (inr (has_closed files mid.hot.settings more (after_put s fresh (put.Stored 0)) more_of_half left_new long))))
               lists);
         }
 
         by : (b : Bool) → new.hot.log.unsure ≡ b → Steps old new s doubt (call.Put v pairs) (answer.Put put.DiskFault)
-        by true unsure = step (Some (Put fresh)) (inr refl) (stands_anew disk new mid.hot.settings s (Some (Put fresh)) settled.records settings keeps settled.state (settled.views ∙ sym viewed) unsure more_of_half left_new)
-        by false sure = step None (inl refl) (stands_anew disk new mid.hot.settings s None settled.records settings (keeps_sure disk new.disk new.hot settled.records more settled.records sure keeps) settled.state (settled.views ∙ sym viewed) sure (own_half disk mid s None settled) settled.state)
+        by true unsure = step (appended hot_file (Put fresh)) (inr refl) (stands_anew disk new mid.hot.settings s (appended hot_file (Put fresh)) settled.records settings keeps settled.state (settled.views ∙ sym viewed) unsure more_of_half left_new)
+        by false sure = step no_doubt (inl refl) (stands_anew disk new mid.hot.settings s no_doubt settled.records settings (keeps_sure disk new.disk new.hot settled.records more settled.records sure keeps) settled.state (settled.views ∙ sym viewed) sure (own_half disk mid s no_doubt settled) settled.state)

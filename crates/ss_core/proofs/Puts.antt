@@ -1,6 +1,6 @@
 -- What a put of the new blocks of a parcel does to a store of which exactly the kept blocks are hot.
-use Rattle.std.proofs.Common.{◌≡◌, ◌≢◌, ℕ, suc, ◌+◌, ◌≤◌, Bool, true, false, cond, List, [], ◌∷◌, length, Option, Some, None, refl, sym, ap, ◌∙◌, subst, true≢false, arith}
-use Rattle.std.specs.Option.{option_or}
+use Rattle.std.proofs.Common.{◌≡◌, ◌≢◌, ℕ, suc, ◌+◌, ◌≤◌, Bool, true, false, cond, List, [], ◌∷◌, map, length, Option, Some, None, refl, sym, ap, ◌∙◌, subst, true≢false, arith}
+use Rattle.std.specs.Option.{option_or, unwrap_or}
 use Rattle.std.specs.Prelude.{◌==◌, ◌||◌, if◌then◌else◌, is_some, sum_by, All}
 use Rattle.std.specs.Ordering.{nat_cmp, eq_by_cmp}
 use Rattle.std.specs.Cmp.{Equal-is}
@@ -16,7 +16,7 @@ use Rattle.ss_records.specs.Record.{BlockFits}
 use Rattle.ss_store.specs.Places.{CidMap, with_pairs}
 use Rattle.ss_store.specs.declared.place.Place.{Place}
 use Rattle.ss_model.specs.State.{Kept, CidSet}
-use Rattle.ss_model.specs.Lawful.{is_known, with_block, with_blocks, with_hot_cid, with_hot, is_left_out, new_pairs, body_bytes, put_bytes, written_bytes, pair_bytes, AreSound}
+use Rattle.ss_model.specs.Lawful.{written_pair, written_pairs, is_known, with_block, with_blocks, with_hot_cid, with_hot, is_left_out, new_pairs, body_bytes, put_bytes, written_bytes, pair_bytes, AreSound}
 use Rattle.ss_model.proofs.Kept.{known_is}
 use Rattle.ss_core.specs.Replies.{cids_of}
 
@@ -188,3 +188,25 @@ new_again h (p ∷ pairs) =
       | true ↦ λ known. new_again h pairs
       | false ↦ λ new. ap (λ out. picked h p (new_pairs (finite_set.insert h p.0) pairs) out) new ∙ ap (λ rest. p ∷ rest) (new_again (finite_set.insert h p.0) pairs)
     ] refl
+
+-- what no CID has kept
+nothing_kept : {X : Type 0} (found : Option X) → is_some found ≡ false → found ≡ None
+nothing_kept None e = refl
+nothing_kept (Some x) e = absurd (true≢false e)
+
+-- where what is not hot is not kept a record has the new pairs as they are
+same_pairs : (kept : Kept) (hot : CidSet) (pairs : List (List ℕ × List ℕ)) → ((c : List ℕ) → finite_set.contains hot c ≡ false → finite_map.get kept c ≡ None) → map (written_pair kept) (new_pairs hot pairs) ≡ new_pairs hot pairs
+unfolding is_left_out
+same_pairs kept hot [] absent = refl
+same_pairs kept hot (p ∷ pairs) absent =
+    let later : (c : List ℕ) → finite_set.contains (finite_set.insert hot p.0) c ≡ false → finite_map.get kept c ≡ None =
+    λ c e. absent c (not_before (eq_by_cmp (slice_cmp nat_cmp) c p.0) (finite_set.contains hot c) (sym (contains-insert nat_list_cmp_total hot p.0 c) ∙ e)) in
+    elim (is_some (identity_of p.0) || finite_set.contains hot p.0) as (λ out. (is_some (identity_of p.0) || finite_set.contains hot p.0) ≡ out → map (written_pair kept) (picked hot p pairs out) ≡ picked hot p pairs out) [
+      | true ↦ λ known. same_pairs kept hot pairs absent
+      | false ↦ λ new.
+          ap (λ found. (p.0, unwrap_or found p.1) ∷ map (written_pair kept) (new_pairs (finite_set.insert hot p.0) pairs)) (absent p.0 (not_before (is_some (identity_of p.0)) (finite_set.contains hot p.0) new))
+          ∙ ap (λ rest. p ∷ rest) (same_pairs kept (finite_set.insert hot p.0) pairs later)
+    ] refl
+
+pub written_are : (kept : Kept) (hot : CidSet) (pairs : List (List ℕ × List ℕ)) → AreAlike kept hot → written_pairs kept hot pairs ≡ new_pairs hot pairs
+written_are kept hot pairs alike = same_pairs kept hot pairs (λ c out. nothing_kept (finite_map.get kept c) (sym (alike c) ∙ out))

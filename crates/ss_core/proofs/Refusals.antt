@@ -1,7 +1,6 @@
 -- A put that its state and its parcel refuse.
 use Rattle.std.proofs.Common.{ℕ, List, Option, refl}
-use Rattle.ss_disk.specs.declared.disk.Disk.{Ghosts}
-use Rattle.ss_records.specs.declared.record.Record.{Record}
+use Rattle.ss_device.specs.declared.disk.Disk.{Ghosts}
 use Rattle.ss_model.specs.State.{State}
 use Rattle.ss_model.specs.Lawful.{IsPutRefusal, IsFitting, IsFirstFault}
 use Rattle.ss_model.specs.declared.call.PutReply.{PutReply}
@@ -10,17 +9,17 @@ use Rattle.ss_model.specs.declared.call.Call.TheVariants as call
 use Rattle.ss_model.specs.declared.call.Answer.TheVariants as answer
 use Rattle.ss_core.specs.declared.split_core.SplitCore.{SplitCore}
 use Rattle.ss_core.specs.Calls.{Steps, Makes}
-use Rattle.ss_core.specs.Calls.{no_effect}
+use Rattle.ss_core.specs.Calls.{untouched}
 use Rattle.ss_core.specs.Replies.{IsRefused, IsDueTo, Puts}
-use Rattle.ss_core.specs.StandsFor.{StandsFor}
+use Rattle.ss_core.specs.StandsFor.{Doubt, StandsFor}
 use Rattle.ss_core.proofs.Idle.{IsIdle, idle}
 use Rattle.ss_core.proofs.Made.{idle_makes}
 
-none : IsIdle no_effect
-none = record { writes = refl; doubts = refl; needs = refl; settles = refl }
+none : IsIdle untouched
+none = record { settles = refl; stands = refl; roomy = refl }
 
 -- its step leaves all as it was
-module _ {D : Type 0} (disk : Ghosts D) (core : SplitCore D disk) (s : State) (doubt : Option Record) (v : ℕ) (pairs : List (List ℕ × List ℕ)) (stands : StandsFor core s doubt) where
+module _ {D : Type 0} (disk : Ghosts D) (core : SplitCore D disk) (s : State) (doubt : Doubt) (v : ℕ) (pairs : List (List ℕ × List ℕ)) (stands : StandsFor core s doubt) where
   is_refused : (r : PutReply) → IsPutRefusal s v pairs r → Steps core core s doubt (call.Put v pairs) (answer.Put r)
   is_refused put.BadView h = idle disk core core s doubt (call.Put v pairs) (answer.Put put.BadView) refl refl none stands h stands
   is_refused (put.TooMany n) h = idle disk core core s doubt (call.Put v pairs) (answer.Put (put.TooMany n)) refl refl none stands h stands
@@ -38,20 +37,20 @@ module _ {D : Type 0} (disk : Ghosts D) (core : SplitCore D disk) (s : State) (d
 -- over any disk its answer comes of nothing done
 module _ {D : Type 0} (disk : Ghosts D) (core : SplitCore D disk) (v : ℕ) (pairs : List (List ℕ × List ℕ)) where
   refused : (r : PutReply) → IsRefused core v pairs r → Makes core core (call.Put v pairs) (answer.Put r) × IsDueTo core core v pairs r
-  refused put.BadView is = (idle_makes disk core (call.Put v pairs) (answer.Put put.BadView) refl tt refl (λ _. refl), (refl, is))
-  refused (put.TooMany n) is = (idle_makes disk core (call.Put v pairs) (answer.Put (put.TooMany n)) refl tt refl (λ _. refl), (refl, is))
-  refused (put.TooBig n) is = (idle_makes disk core (call.Put v pairs) (answer.Put (put.TooBig n)) refl tt refl (λ _. refl), (refl, is))
-  refused (put.TooLarge i) is = (idle_makes disk core (call.Put v pairs) (answer.Put (put.TooLarge i)) refl tt refl (λ _. refl), (refl, is))
-  refused (put.UnknownHash i) is = (idle_makes disk core (call.Put v pairs) (answer.Put (put.UnknownHash i)) refl tt refl (λ _. refl), (refl, is))
-  refused (put.Mismatch i) is = (idle_makes disk core (call.Put v pairs) (answer.Put (put.Mismatch i)) refl tt refl (λ _. refl), (refl, is))
-  refused (put.Malformed i kind at) is = (idle_makes disk core (call.Put v pairs) (answer.Put (put.Malformed i kind at)) refl tt refl (λ _. refl), (refl, is))
+  refused put.BadView is = (idle_makes disk core (call.Put v pairs) (answer.Put put.BadView) refl tt refl refl, (refl, is))
+  refused (put.TooMany n) is = (idle_makes disk core (call.Put v pairs) (answer.Put (put.TooMany n)) refl tt refl refl, (refl, is))
+  refused (put.TooBig n) is = (idle_makes disk core (call.Put v pairs) (answer.Put (put.TooBig n)) refl tt refl refl, (refl, is))
+  refused (put.TooLarge i) is = (idle_makes disk core (call.Put v pairs) (answer.Put (put.TooLarge i)) refl tt refl refl, (refl, is))
+  refused (put.UnknownHash i) is = (idle_makes disk core (call.Put v pairs) (answer.Put (put.UnknownHash i)) refl tt refl refl, (refl, is))
+  refused (put.Mismatch i) is = (idle_makes disk core (call.Put v pairs) (answer.Put (put.Mismatch i)) refl tt refl refl, (refl, is))
+  refused (put.Malformed i kind at) is = (idle_makes disk core (call.Put v pairs) (answer.Put (put.Malformed i kind at)) refl tt refl refl, (refl, is))
   refused put.NoMemory is = absurd is.fault
   refused (put.TableFull rows) is = absurd is.fault
   refused (put.LogFull file need room) is = absurd is.fault
   refused put.DiskFault is = absurd is.fault
   refused (put.Stored new) is = absurd is.fault
 
-  pub refused_puts : (r : PutReply) → ((s : State) (doubt : Option Record) → StandsFor core s doubt → IsPutRefusal s v pairs r) → IsRefused core v pairs r → Puts core core v pairs r
+  pub refused_puts : (r : PutReply) → ((s : State) (doubt : Doubt) → StandsFor core s doubt → IsPutRefusal s v pairs r) → IsRefused core v pairs r → Puts core core v pairs r
   refused_puts r decides is = record { told = λ _ s doubt stands. is_refused disk core s doubt v pairs stands r (decides s doubt stands); made = (refused r is).0; due = (refused r is).1; views = refl }
 
 -- a faulty pair refuses a parcel that fits

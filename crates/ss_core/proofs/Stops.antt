@@ -1,7 +1,6 @@
 -- How a fault that stops a put or a head is answered.
 use Rattle.std.proofs.Common.{◌≡◌, ◌⊎◌, inl, inr, ⊎_elim, ℕ, List, Option, refl, sym, subst}
-use Rattle.ss_disk.specs.declared.disk.Disk.{Ghosts}
-use Rattle.ss_records.specs.declared.record.Record.{Record}
+use Rattle.ss_device.specs.declared.disk.Disk.{Ghosts}
 use Rattle.ss_store.specs.declared.fault.StoreFault.{StoreFault}
 use Rattle.ss_store.specs.declared.fault.StoreFault.TheVariants as fault
 use Rattle.ss_model.specs.State.{State}
@@ -16,6 +15,7 @@ use Rattle.ss_core.specs.Calls.{Steps, Makes}
 use Rattle.ss_core.specs.Replies.{Puts}
 use Rattle.ss_hot.specs.Store.{IsStop}
 use Rattle.ss_core.specs.Replies.{put_fault, head_fault}
+use Rattle.ss_core.specs.StandsFor.{Doubt}
 
 -- a fault is one where the log is not full and the file not damaged
 pub is_stop : (f : StoreFault) → ((file need room : ℕ) → f ≡ fault.LogFull file need room → ⊥) → ((file at : ℕ) → f ≡ fault.Damaged file at → ⊥) → IsStop f
@@ -26,7 +26,7 @@ is_stop (fault.Damaged file at) full damaged = absurd (damaged file at refl)
 
 -- what a call does with both answers it does with the one that is given
 module _ {D : Type 0} {disk : Ghosts D} {old new : SplitCore D disk} where
-  module _ {s : State} {doubt : Option Record} where
+  module _ {s : State} {doubt : Doubt} where
     pub head_steps : {cids : List (List ℕ)} {r : HeadReply} (f : StoreFault) → r ≡ head_fault f → IsStop f → (f ≡ fault.NoMemory → Steps old new s doubt (call.SetHead cids) (answer.Head head.NoMemory)) → (f ≡ fault.DiskFault → Steps old new s doubt (call.SetHead cids) (answer.Head head.DiskFault)) → Steps old new s doubt (call.SetHead cids) (answer.Head r)
     head_steps {cids = cids} fault.NoMemory is stop memory failed = subst (λ (r : HeadReply). Steps old new s doubt (call.SetHead cids) (answer.Head r)) (sym is) (memory refl)
     head_steps {cids = cids} fault.DiskFault is stop memory failed = subst (λ (r : HeadReply). Steps old new s doubt (call.SetHead cids) (answer.Head r)) (sym is) (failed refl)

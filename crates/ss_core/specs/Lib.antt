@@ -1,3 +1,5 @@
 pub mod Calls
+pub mod Held
+pub mod LogFiles
 pub mod Replies
 pub mod StandsFor

@@ -1,17 +1,17 @@
 -- What comes of a put, in steps: whether its parcel passes, why it is refused, which blocks are new, and what settling the log does;
 -- and of reading blocks: how many bytes a get answers, what the blocks of a head are, and how a fault is answered.
-use Rattle.std.specs.{Prelude.{◌≡◌, ℕ, ◌+◌, ◌-◌, ◌^◌, ◌<◌, ◌≤◌, min, max, Bool, false, List, [], map, length, Option, None, Some, Result, Ok, Err, option_map, slice_get, sum_by, IsTrue}, Option.{unwrap_or, option_or}}
-use Rattle.ss_disk.specs.{declared.disk.Disk.Ghosts, Calls.{Leaves, Goes}, Disk.Same}
-use Rattle.ss_records.specs.declared.record.Record.{Record}
-use Rattle.ss_model.specs.{State.{State, CidSet, Kept}, Lawful.{AreSound, IsFirstFault, body_bytes, IsDagCbor, IsPairFault, is_left_out}, declared.{TheConstants.{PUT_BLOCKS, PUT_BYTES}, call.{Call.Call, Answer.Answer, PutReply.PutReply, HeadReply.HeadReply, GetReply.GetReply}}, Head.{blocks_of, head_refusal}}
-use Rattle.ss_core.specs.{declared.{split_core.SplitCore.SplitCore, blocks.BlockFault.BlockFault, fresh.{Fresh.Fresh, Looked.Looked}}, Calls.{Steps, Makes}, StandsFor.{StandsFor, HasEitherState}}
+use Rattle.std.specs.{Prelude.{◌≡◌, ℕ, ◌+◌, ◌-◌, ◌^◌, ◌<◌, ◌≤◌, min, Bool, false, List, [], map, length, Option, None, Some, Result, Ok, Err, option_map, slice_get, IsTrue}, Option.option_or}
+use Rattle.ss_device.specs.{declared.disk.Disk.Ghosts, Calls.{LeavesFiles, Goes}, Disk.Same}
+use Rattle.ss_model.specs.{State.{State, Kept}, Lawful.{AreSound, IsFirstFault, body_bytes, pairs_need, IsDagCbor, IsPairFault, is_left_out}, declared.{TheConstants.{PUT_BLOCKS, PUT_BYTES}, call.{Call.Call, Answer.Answer, PutReply.PutReply, HeadReply.HeadReply, GetReply.GetReply}}, Head.{blocks_of, head_refusal}}
+use Rattle.ss_core.specs.{declared.{split_core.SplitCore.SplitCore, blocks.BlockFault.BlockFault, fresh.{Fresh.Fresh, Looked.Looked}}, Calls.{Steps, Makes, settings_of}, StandsFor.{Doubt, no_doubt, StandsFor, HasEitherState}, LogFiles.{hot_file, log_files}}
 use Rattle.ss_cbor.specs.{Fault.scanned, declared.fault.CborFault.CborFault}
 use Rattle.ss_store.specs.{Places.CidMap, declared.{place.Place.Place, fault.StoreFault.StoreFault}}
-use Rattle.ss_hot.specs.Store.{Hot, AreNotHot}
+use Rattle.ss_hot.specs.Store.{Hot, AreNotHot, room_of}
 use Rattle.ss_chain.specs.{Header.HeaderFields, Tipset.tipset_of}
 use Rattle.ss_cid.specs.Cid.{identity_of}
 use Rattle.std.specs.FinMap as finite_map
 use Rattle.std.specs.FinSet as finite_set
+pub use Rattle.ss_core.specs.Held.{cids_of, held_len, held_count, held_bytes, held_put_bytes, pairs_new_to}
 
 -- the parcel has no more blocks and bytes than a put may have, and each may be stored
 pub record IsReady (pairs : List (List ℕ × List ℕ)) : Type 0 where
@@ -19,45 +19,46 @@ pub record IsReady (pairs : List (List ℕ × List ℕ)) : Type 0 where
   pub short : body_bytes pairs ≤ PUT_BYTES
   pub sound : AreSound pairs
 
--- the bytes that one pair takes of a put, and those of a put, by the places of the blocks that are kept
-abbrev pub held_bytes : CidMap Place → List ℕ × List ℕ → ℕ
-held_bytes places p = length p.0 + 4 + max (length p.1) (unwrap_or (option_map (λ place. place.len) (finite_map.get places p.0)) 0)
+-- ---- why a put is refused, over any disk
 
-abbrev pub held_put_bytes : CidMap Place → List (List ℕ × List ℕ) → ℕ
-held_put_bytes places pairs = 3 + sum_by (held_bytes places) pairs
-
--- Why a put is refused before memory is asked for, over any disk: by the open views, the parcel and the blocks' places.
+-- before memory is asked for: by the open views, the parcel and what is held
 abbrev pub IsRefused : {D : Type 0} {disk : Ghosts D} → SplitCore D disk → ℕ → List (List ℕ × List ℕ) → PutReply → Type 0
 IsRefused core v pairs PutReply.BadView = finite_set.contains core.views v ≡ false
 IsRefused core v pairs (PutReply.TooMany n) = PUT_BLOCKS < length pairs
-IsRefused core v pairs (PutReply.TooBig n) = PUT_BYTES < held_put_bytes core.hot.places pairs
+IsRefused core v pairs (PutReply.TooBig n) = PUT_BYTES < held_put_bytes core pairs
 IsRefused core v pairs refusal = IsFirstFault pairs refusal
 
--- such a refusal has its cause, and leaves the store as it was
+-- Such a refusal has its cause, and leaves the store as it was. So do a full table and a full log, whose numbers are exact.
 abbrev pub IsDueTo : {D : Type 0} {disk : Ghosts D} → SplitCore D disk → SplitCore D disk → ℕ → List (List ℕ × List ℕ) → PutReply → Type 0
+IsDueTo old new v pairs PutReply.BadView = (new ≡ old) × IsRefused old v pairs PutReply.BadView
+IsDueTo old new v pairs (PutReply.TooMany n) = (new ≡ old) × IsRefused old v pairs (PutReply.TooMany n)
+IsDueTo old new v pairs (PutReply.TooBig n) = (new ≡ old) × IsRefused old v pairs (PutReply.TooBig n)
+IsDueTo old new v pairs (PutReply.TooLarge i) = (new ≡ old) × IsRefused old v pairs (PutReply.TooLarge i)
+IsDueTo old new v pairs (PutReply.UnknownHash i) = (new ≡ old) × IsRefused old v pairs (PutReply.UnknownHash i)
+IsDueTo old new v pairs (PutReply.Mismatch i) = (new ≡ old) × IsRefused old v pairs (PutReply.Mismatch i)
+IsDueTo old new v pairs (PutReply.Malformed i kind at) = (new ≡ old) × IsRefused old v pairs (PutReply.Malformed i kind at)
 IsDueTo old new v pairs PutReply.NoMemory = Unit {0}
-IsDueTo old new v pairs (PutReply.TableFull rows) = Unit {0}
-IsDueTo old new v pairs (PutReply.LogFull file need room) = Unit {0}
+IsDueTo old new v pairs (PutReply.TableFull rows) = (new ≡ old) × (rows ≡ held_count old + length (pairs_new_to old pairs)) × ((settings_of old).rows < rows)
+IsDueTo old new v pairs (PutReply.LogFull file need room) = (new ≡ old) × (file ≡ hot_file) × (need ≡ pairs_need (pairs_new_to old pairs)) × (room ≡ room_of old.hot) × (room < need)
 IsDueTo old new v pairs PutReply.DiskFault = Unit {0}
 IsDueTo old new v pairs (PutReply.Stored n) = Unit {0}
-IsDueTo old new v pairs refusal = (new ≡ old) × IsRefused old v pairs refusal
 
 -- What a put does: its step, what it does over any disk, and why it is refused. The views stay.
 pub record Puts {D : Type 0} {disk : Ghosts D} (old new : SplitCore D disk) (v : ℕ) (pairs : List (List ℕ × List ℕ)) (result : PutReply) : Type 0 where
-  pub told : IsTrue disk.told → (s : State) (doubt : Option Record) → StandsFor old s doubt → Steps old new s doubt (Call.Put v pairs) (Answer.Put result)
+  pub told : IsTrue disk.told → (s : State) (doubt : Doubt) → StandsFor old s doubt → Steps old new s doubt (Call.Put v pairs) (Answer.Put result)
   pub made : Makes old new (Call.Put v pairs) (Answer.Put result)
   pub due : IsDueTo old new v pairs result
   pub views : new.views ≡ old.views
 
--- the record in doubt once a log was settled, or could not be
-abbrev pub doubt_after : {E : Type 0} → Result (Unit {0}) E → Option Record → Option Record
-doubt_after (Ok _) doubt = None
+-- what is in doubt once a log was settled, or could not be
+abbrev pub doubt_after : {E : Type 0} → Result (Unit {0}) E → Doubt → Doubt
+doubt_after (Ok _) doubt = no_doubt
 doubt_after (Err _) doubt = doubt
 
 -- A store whose log was settled, or could not be, stands for the state that it stood for.
-pub record Settles {D E : Type 0} {disk : Ghosts D} (old new : SplitCore D disk) (s : State) (doubt : Option Record) (result : Result (Unit {0}) E) : Type 0 where
+pub record Settles {D E : Type 0} {disk : Ghosts D} (old new : SplitCore D disk) (s : State) (doubt : Doubt) (result : Result (Unit {0}) E) : Type 0 where
   pub after : StandsFor new s (doubt_after result doubt)
-  pub stops : Leaves disk old.hot.log.file (HasEitherState s doubt) old.disk new.disk
+  pub stops : LeavesFiles disk log_files (HasEitherState s doubt) old.disk new.disk
 
 -- the refusal of a put by a fault of its pair at this place
 abbrev pub refusal_of : BlockFault → ℕ → PutReply
@@ -74,10 +75,6 @@ IsMalformed p _ = ⊥
 -- the block has this fault
 abbrev pub IsFaultOf : List ℕ × List ℕ → BlockFault → Type 0
 IsFaultOf p fault = (i : ℕ) → IsPairFault i p (refusal_of fault i)
-
--- the CIDs at which a place is held
-abbrev pub cids_of : CidMap Place → CidSet
-cids_of places = finite_set.from_list (finite_map.keys places)
 
 -- for each pair it is noted whether this holds of its CID
 abbrev pub AreNoted : (List ℕ → Bool) → List (List ℕ × List ℕ) → List Bool → Type 0
@@ -101,8 +98,8 @@ IsFresh pairs new (Fresh.Part blocks) = (new ≡ blocks) × (1 ≤ length blocks
 -- ---- reading blocks
 
 -- how many bytes the block of a CID has: of an identity CID those of its digest, of another as many as its place tells
-abbrev pub len_of : Hot → List ℕ → Option ℕ
-len_of hot c = option_or (option_map length (identity_of c)) (option_map (λ place. place.len) (finite_map.get hot.places c))
+abbrev pub len_of : {D : Type 0} {disk : Ghosts D} → SplitCore D disk → List ℕ → Option ℕ
+len_of core c = option_or (option_map length (identity_of c)) (held_len core c)
 
 -- the block of this CID, which is not an identity CID, lies at this place
 abbrev pub LiesAt : Hot → List ℕ → Place → Type 0

@@ -3,6 +3,7 @@
 ghost use Rattle.std.specs.Prelude.{◌≡◌, ◌+◌, ◌^◌, ◌<◌, ◌≤◌, List, length, false, Err, None, Option, IsTrue, IsOk, IfOk, IfErr, OnOk, option_map};
 ghost use Rattle.std.specs.FinMap as finite_map;
 ghost use Rattle.std.specs.FinSet as finite_set;
+ghost use Rattle.ss_core.specs.LogFiles.{hot_file};
 ghost use Rattle.ss_records.specs.declared.record.Record.{Record};
 ghost use Rattle.ss_store.specs.declared.fault.StoreFault.{StoreFault};
 
@@ -13,7 +14,7 @@ mod put;
 
 use crate::views::Views;
 use ss_cid::Cid;
-use ss_disk::Disk;
+use ss_device::Disk;
 use ss_hot::HotStore;
 use ss_model::{Answer, Call, ViewReply};
 use ss_store::StoreFault;
@@ -41,13 +42,13 @@ pub struct SplitCore<D: Disk> {
     disk: D,
     hot: HotStore,
     views: Views,
-    ghost file: { hot.log.file ≡ 0 },
+    ghost file: { hot.log.file ≡ hot_file },
     ghost limit: { hot.log.limit ≡ hot.settings.limit },
     ghost known: { hot.log.end + 1 ≤ D.known disk hot.log.file },
 }
 
 impl<D: Disk> SplitCore<D> {
-    ghost use Rattle.ss_disk.specs.Calls.{Touches};
+    ghost use Rattle.ss_device.specs.Calls.{TouchesFiles};
     ghost use Rattle.ss_gatelog.specs.GateLog.{CountsFault};
     ghost use Rattle.ss_store.specs.declared.fault.StoreFault.TheVariants as fault;
     ghost use Rattle.ss_hot.specs.Store.{Keeps, SameButDoubt};
@@ -55,18 +56,19 @@ impl<D: Disk> SplitCore<D> {
     ghost use Rattle.ss_model.specs.declared.call.Call.TheVariants as call_kind;
     ghost use Rattle.ss_model.specs.declared.call.Answer.TheVariants as answer;
     ghost use Rattle.ss_core.specs.Calls.{Steps, Makes, OpensView};
-    ghost use Rattle.ss_core.specs.Replies.{Settles};
-    ghost use Rattle.ss_core.specs.StandsFor.{IsLeftBy, StandsFor};
+    ghost use Rattle.ss_core.specs.Replies.{Settles, held_len, held_count};
+    ghost use Rattle.ss_core.specs.StandsFor.{Doubt, no_doubt, IsLeftBy, StandsFor};
+    ghost use Rattle.ss_core.specs.LogFiles.{log_files};
 
     /// The store of these parts, in which no view is open. The disk is not called.
     ///
     /// `TooMany` exactly where more CIDs are kept than the setting `rows`; it gives the disk back.
     pub fn from_parts(disk: D, hot: HotStore) -> Result<SplitCore<D>, (PartsFault, D)>
         requires sure { hot.log.unsure ≡ false }
-        requires log { (hot.log.file ≡ 0) × (hot.log.limit ≡ hot.settings.limit) }
+        requires log { (hot.log.file ≡ hot_file) × (hot.log.limit ≡ hot.settings.limit) }
         requires known { hot.log.end + 1 ≤ D.known disk hot.log.file }
         ensures parts { IfOk result (λ core. (core.disk ≡ disk) × (core.hot ≡ hot) × (core.views ≡ finite_set.empty)) }
-        ensures stands { (records : List Record) (s : State) → IsTrue D.told → Keeps D.Disk disk hot records records → IsLeftBy hot.settings records s → s.views ≡ finite_set.empty → IfOk result (λ core. StandsFor core s None) }
+        ensures stands { (records : List Record) (s : State) → IsTrue D.told → Keeps D.Disk disk hot records records → IsLeftBy hot.settings records s → s.views ≡ finite_set.empty → IfOk result (λ core. StandsFor core s no_doubt) }
         ensures few { OnOk result (finite_map.len hot.places ≤ hot.settings.rows) }
         ensures many { IfErr result (λ (fault, back). (fault ≡ PartsFault.TooMany (finite_map.len hot.places)) × (hot.settings.rows < finite_map.len hot.places) × (back ≡ disk)) }
     {
@@ -95,7 +97,7 @@ impl<D: Disk> SplitCore<D> {
 
     /// Makes the call, and answers as the method of its name does.
     pub fn answer(&mut self, alloc: Global, call: &Call) -> Answer
-        ensures told { IsTrue D.told → (s : State) (doubt : Option Record) → StandsFor self.old s doubt → Steps self.old self.new s doubt call.now result }
+        ensures told { IsTrue D.told → (s : State) (doubt : Doubt) → StandsFor self.old s doubt → Steps self.old self.new s doubt call.now result }
         ensures made { Makes self.old self.new call.now result }
     {
         match call {
@@ -114,7 +116,7 @@ impl<D: Disk> SplitCore<D> {
     /// out for either.
     pub fn call(&mut self, alloc: Global, call: &Call) -> (Answer, Answer)
         ensures twice { result.0 ≡ result.1 }
-        ensures told { IsTrue D.told → (s : State) (doubt : Option Record) → StandsFor self.old s doubt → Steps self.old self.new s doubt call.now result.0 }
+        ensures told { IsTrue D.told → (s : State) (doubt : Doubt) → StandsFor self.old s doubt → Steps self.old self.new s doubt call.now result.0 }
         ensures made { Makes self.old self.new call.now result.0 }
     {
         match call {
@@ -155,7 +157,7 @@ impl<D: Disk> SplitCore<D> {
 
     /// Opens the view of the least number below `VIEWS` that is not open: `TooManyViews` exactly where all are.
     pub fn open_view(&mut self) -> ViewReply
-        ensures told { IsTrue D.told → (s : State) (doubt : Option Record) → StandsFor self.old s doubt → Steps self.old self.new s doubt call_kind.OpenView (answer.View result) }
+        ensures told { IsTrue D.told → (s : State) (doubt : Doubt) → StandsFor self.old s doubt → Steps self.old self.new s doubt call_kind.OpenView (answer.View result) }
         ensures made { Makes self.old self.new call_kind.OpenView (answer.View result) }
         ensures views { OpensView self.old.views self.new.views result }
     {
@@ -167,29 +169,29 @@ impl<D: Disk> SplitCore<D> {
 
     // Settles a log in doubt: the record that was in doubt does not count. The disk is called for no other log.
     fn settle(&mut self) -> Result<(), StoreFault>
-        ensures told { IsTrue D.told → (s : State) (doubt : Option Record) → StandsFor self.old s doubt → Settles self.old self.new s doubt result }
+        ensures told { IsTrue D.told → (s : State) (doubt : Doubt) → StandsFor self.old s doubt → Settles self.old self.new s doubt result }
         ensures same { SameButDoubt self.old.hot self.new.hot }
         ensures views { self.new.views ≡ self.old.views }
         ensures sure { self.old.hot.log.unsure ≡ false → IsOk result × (self.new.hot ≡ self.old.hot) × (self.new.disk ≡ self.old.disk) }
         ensures settled { OnOk result (self.new.hot.log.unsure ≡ false) }
         ensures errors { (e : StoreFault) → result ≡ Err e → e ≡ fault.DiskFault }
         ensures counts { CountsFault fault.DiskFault (D.faults self.old.disk) (D.faults self.new.disk) result }
-        ensures touches { Touches D.Disk self.old.hot.log.file self.old.disk self.new.disk }
+        ensures touches { TouchesFiles D.Disk log_files self.old.disk self.new.disk }
     {
         self.hot.settle(&mut self.disk)
     }
 
     // How many bytes are kept under a CID, None where it is not kept. What is kept is hot.
     fn kept_len(&self, cid: &Cid) -> Option<u32>
-        ensures place { result ≡ option_map (λ place. place.len) (finite_map.get self.now.hot.places cid.now) }
-        ensures block { (s : State) (doubt : Option Record) → StandsFor self.now s doubt → result ≡ option_map (λ block. length block) (finite_map.get s.kept cid.now) }
+        ensures place { result ≡ held_len self.now cid.now }
+        ensures block { (s : State) (doubt : Doubt) → StandsFor self.now s doubt → result ≡ option_map (λ block. length block) (finite_map.get s.kept cid.now) }
     {
         self.hot.size(cid)
     }
 
     // How many CIDs are kept.
     fn kept_count(&self) -> u64
-        ensures count { result ≡ finite_map.len self.now.hot.places }
+        ensures count { result ≡ held_count self.now }
         ensures few { result < 2 ^ 63 }
     {
         self.hot.count()

@@ -8,7 +8,7 @@ use Rattle.std.proofs.lemmas.List.Elements.{filter-append}
 use Rattle.std.specs.declared.alloc.Global.{Global}
 use Rattle.ss_disk.specs.declared.memory.call.DeviceCall.{DeviceCall}
 use Rattle.ss_disk.specs.declared.memory.call.DeviceCall.TheVariants.{Asked, Wrote, Synced}
-use Rattle.ss_disk.specs.Disk.{Torn}
+use Rattle.ss_device.specs.Disk.{Torn}
 use Rattle.ss_disk.specs.Memory.{contents, concerns, story, read_after, MayLeave, fits, syncs, unsynced, placed, replayed, Tears}
 use Rattle.ss_disk.specs.MemoryLaws.{reading_left}
 use Rattle.ss_disk.proofs.Stories.{story_push}

@@ -1,5 +1,3 @@
-pub mod Goes
-pub mod Moments
 mod Images
 mod Stories
 mod Writes

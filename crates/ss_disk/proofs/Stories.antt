@@ -8,10 +8,10 @@ use Rattle.std.proofs.lemmas.List.{take_all, take-append-le, reverse-append, get
 use Rattle.std.proofs.lemmas.List.Elements.{filter-append}
 use Rattle.ss_disk.specs.declared.memory.call.DeviceCall.{DeviceCall}
 use Rattle.ss_disk.specs.declared.memory.call.DeviceCall.TheVariants.{Asked, Wrote, Synced}
-use Rattle.ss_disk.specs.Disk.{Files, Holds, Torn, Same, Changes, Evolves}
+use Rattle.ss_device.specs.Disk.{Files, Holds, Torn, Same, Changes, Evolves}
 use Rattle.ss_disk.specs.Memory.{contents, concerns, story, read_after, MayLeave, Image, fits, Replays}
 use Rattle.ss_disk.specs.MemoryLaws.{torn_from_holds, reading_left}
-use Rattle.ss_disk.proofs.Moments.{stays}
+use Rattle.ss_device.proofs.Moments.{stays}
 
 -- the call joins the story, or it does not concern the file
 pub story_push : (file : ℕ) (calls : List DeviceCall) (call : DeviceCall) → ((concerns file call ≡ true) × (story file (calls ++ call ∷ []) ≡ call ∷ story file calls)) ⊎ ((concerns file call ≡ false) × (story file (calls ++ call ∷ []) ≡ story file calls))

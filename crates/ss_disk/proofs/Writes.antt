@@ -5,11 +5,11 @@ use Rattle.std.specs.declared.alloc.Global.{Global}
 use Rattle.ss_disk.specs.declared.memory.MemoryDisk.{MemoryDisk}
 use Rattle.ss_disk.specs.declared.memory.call.DeviceCall.{DeviceCall}
 use Rattle.ss_disk.specs.declared.memory.call.DeviceCall.TheVariants.{Asked, Wrote}
-use Rattle.ss_disk.specs.Disk.{Files, Holds, Torn, Changes, Evolves}
+use Rattle.ss_device.specs.Disk.{Files, Holds, Torn, Changes, Evolves}
 use Rattle.ss_disk.specs.Memory.{contents, Image}
 use Rattle.ss_disk.specs.MemoryDisk.{files_of, moment_of, image_of, Stays, Puts, Writes, KeepsImages}
 use Rattle.std.proofs.lemmas.List.{take_all}
-use Rattle.ss_disk.proofs.Moments.{stays}
+use Rattle.ss_device.proofs.Moments.{stays}
 use Rattle.ss_disk.proofs.Stories.{changes_torn, changes_torn_same, evolves_wrote, IsPending, image_pending}
 
 -- the same, where only known lengths or the count of faults changed since

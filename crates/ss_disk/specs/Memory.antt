@@ -1,7 +1,8 @@
 -- What a disk in memory went through, by its record of calls: what a read gives after them, and what a crash may leave.
 -- Each file goes its own way, so what a crash leaves of one file says nothing of another.
 use Rattle.std.specs.{Prelude.{◌≡◌, ℕ, zero, suc, ◌+◌, ◌≤◌, Bool, true, false, ◌&&◌, ◌==◌, nat_le, IsTrue, List, [], ◌∷◌, ◌++◌, length, take, drop, reverse, filter, slice_index, not, ◌||◌, if◌then◌else◌, MatchBool, Vec}, declared.alloc.Global.Global}
-use Rattle.ss_disk.specs.{declared.memory.call.DeviceCall.DeviceCall, Disk.{Files, Torn}}
+use Rattle.ss_device.specs.Disk.{Files, Torn}
+use Rattle.ss_disk.specs.declared.memory.call.DeviceCall.{DeviceCall}
 
 -- the contents by number, where the list has those of files 0, 1, ..; each file past them is empty
 abbrev pub contents : List (Vec ℕ Global) → Files

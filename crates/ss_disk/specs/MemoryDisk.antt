@@ -1,6 +1,7 @@
 -- What contracts see of a disk in memory.
 use Rattle.std.specs.{Prelude.{◌≡◌, ◌⊎◌, ℕ, ◌+◌, List, [], ◌∷◌, ◌++◌, length, take, slice_index, Contains, Vec, Result, IsErr, OnOk}, declared.alloc.Global.Global}
-use Rattle.ss_disk.specs.{declared.memory.MemoryDisk.MemoryDisk, declared.memory.call.DeviceCall.DeviceCall, Disk.{Files, Holds, Changes}, Memory.{contents, Image}}
+use Rattle.ss_device.specs.Disk.{Files, Holds, Changes}
+use Rattle.ss_disk.specs.{declared.memory.MemoryDisk.MemoryDisk, declared.memory.call.DeviceCall.DeviceCall, Memory.{contents, Image}}
 
 -- what a read of each file gives
 abbrev pub files_of : MemoryDisk → Files

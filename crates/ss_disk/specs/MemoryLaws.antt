@@ -4,7 +4,8 @@ use Rattle.std.proofs.Common.{◌∙◌, ap, sym, arith, length-append, length-d
 use Rattle.std.proofs.Math.Seq.{drop-append-add}
 use Rattle.std.proofs.lemmas.List.{take_at, length-take-le, drop-drop, take_all}
 use Rattle.std.proofs.lemmas.Bool.Decides.{nat_tests}
-use Rattle.ss_disk.specs.{declared.memory.call.DeviceCall.DeviceCall, Disk.{Torn, Holds}, Memory.{contents, story, read_after, MayLeave, Image, fits, Replays}}
+use Rattle.ss_device.specs.Disk.{Torn, Holds}
+use Rattle.ss_disk.specs.{declared.memory.call.DeviceCall.DeviceCall, Memory.{contents, story, read_after, MayLeave, Image, fits, Replays}}
 
 -- no more bytes than n, put at a place within the file, are what a write of n bytes may leave
 pub torn_from_holds : (at n : ℕ) (bytes old new : List ℕ) → at ≤ length old → length bytes ≤ n → Holds at bytes old new → Torn at n old new

@@ -1,5 +1,5 @@
 ghost use Rattle.std.specs.Prelude.{◌≡◌, ◌+◌, ◌^◌, ◌<◌, ◌≤◌, ◌↔◌, ◌++◌, [], ◌∷◌, ℕ, true, length, IsTrue, IsErr, slice_index, slice_range, Contains, MatchResult, IfOk, OnOk, OnErr};
-ghost use Rattle.ss_disk.specs.Disk.{Files, Holds, Torn, Same, Changes, Evolves, Raises, HasCause};
+ghost use Rattle.ss_device.specs.Disk.{Files, Holds, Torn, Same, Changes, Evolves, Raises, HasCause};
 ghost use Rattle.ss_disk.specs.Memory.{contents, Replays};
 ghost use Rattle.ss_disk.specs.MemoryLaws.{reading_is_image};
 
@@ -8,12 +8,10 @@ mod call;
 mod image;
 mod way;
 
-use crate::disk::FILES;
-use crate::fault::count;
-use crate::{Disk, DiskFault, NoMemory};
 use bytes::{cut_short, overwrite};
 pub use call::DeviceCall;
 use image::images;
+use ss_device::{Disk, DiskFault, FILES, NoMemory, count};
 use std::alloc::{AllocError, Global};
 use std::array;
 use way::Way;

@@ -2,12 +2,12 @@
 use Rattle.std.proofs.Common.{◌≡◌, ◌≢◌, inl, inr, ⊎_elim, ℕ, ◌+◌, ◌<◌, ◌≤◌, ◌^◌, Bool, true, false, IsTrue, List, [], ◌∷◌, ◌++◌, length, refl, sym, ◌∙◌, ap, subst, arith}
 use Rattle.std.specs.Prelude.{slice_range, MatchBool, Result, Ok, Err, OnOk, OnErr}
 use Rattle.std.proofs.lemmas.Bool.Decides.{when_true, when_false}
-use Rattle.ss_disk.specs.declared.disk.Disk.{Ghosts}
-use Rattle.ss_disk.specs.Disk.{Files, Holds, Torn, Same, Changes, Evolves}
-use Rattle.ss_disk.specs.Calls.{Goes, Leaves}
-use Rattle.ss_disk.proofs.Moments.{now_from}
-use Rattle.ss_disk.proofs.Moments as moments
-use Rattle.ss_disk.proofs.Goes.{widens, leaves, leaves_on}
+use Rattle.ss_device.specs.declared.disk.Disk.{Ghosts}
+use Rattle.ss_device.specs.Disk.{Files, Holds, Torn, Same, Changes, Evolves}
+use Rattle.ss_device.specs.Calls.{Goes, Leaves}
+use Rattle.ss_device.proofs.Moments.{now_from}
+use Rattle.ss_device.proofs.Moments as moments
+use Rattle.ss_device.proofs.Goes.{widens, leaves, leaves_on}
 use Rattle.ss_gatelog.specs.Log.{open_gate, longest_body, length_bytes, spelled, AreBodies, Spells, IsShort, InDoubt, HasList, HasRecords}
 use Rattle.ss_gatelog.specs.GateLog.{Log, IsSure, IsDoubted, Stands, HasEither, Opens}
 use Rattle.ss_gatelog.proofs.Bytes.{length_bytes-injective}

@@ -1,10 +1,10 @@
 -- What a reader has lent, after its calls.
 use Rattle.std.proofs.Common.{◌≡◌, ◌⊎◌, inl, inr, ⊎_elim, ℕ, ◌+◌, ◌-◌, ◌<◌, ◌≤◌, Bool, true, false, IsTrue, List, [], ◌∷◌, ◌++◌, length, take, drop, refl, sym, ◌∙◌, ap, subst, arith, rules}
 use Rattle.std.specs.Prelude.{slice_range, Result, Ok, Err, Option, IsErr}
-use Rattle.ss_disk.specs.declared.disk.Disk.{Ghosts}
-use Rattle.ss_disk.specs.Disk.{Files, Same, Changes, Torn}
-use Rattle.ss_disk.specs.Calls.{Goes}
-use Rattle.ss_disk.proofs.Goes.{stays}
+use Rattle.ss_device.specs.declared.disk.Disk.{Ghosts}
+use Rattle.ss_device.specs.Disk.{Files, Same, Changes, Torn}
+use Rattle.ss_device.specs.Calls.{Goes}
+use Rattle.ss_device.proofs.Goes.{stays}
 use Rattle.ss_gatelog.specs.Log.{spelled, HasRecords, HasList, Spells}
 use Rattle.ss_gatelog.specs.GateLog.{IsSure, Opens}
 use Rattle.ss_gatelog.specs.Gate.{LeadTo, IsPiece, Reader, HasLent, Lends}

@@ -3,7 +3,7 @@ use Rattle.std.proofs.Common.{◌≡◌, ◌≢◌, ◌⊎◌, inl, inr, ℕ, �
 use Rattle.std.specs.Prelude.{slice_range}
 use Rattle.std.proofs.lemmas.Bool.{cases_eq}
 use Rattle.std.proofs.lemmas.List.{take_at, drop_at, drop_more, append-nil}
-use Rattle.ss_disk.specs.Disk.{Holds, Torn}
+use Rattle.ss_device.specs.Disk.{Holds, Torn}
 use Rattle.ss_gatelog.specs.Log.{open_gate, longest_body, length_bytes, spelled, AreBodies, Spells, IsShort, InDoubt, HasList}
 use Rattle.ss_gatelog.proofs.Bytes.{length-length_bytes}
 

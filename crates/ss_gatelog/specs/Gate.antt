@@ -1,7 +1,7 @@
 -- What stands at a gate of a log's file, after the records that lead up to it, and what a reader of the records has lent.
 use Rattle.std.specs.Prelude.{◌≡◌, ◌≢◌, ◌+◌, ◌^◌, ◌<◌, ◌≤◌, ℕ, List, [], ◌∷◌, ◌++◌, length, slice_index, slice_range, Bool, true, Result, Ok, Err, Option, Some, None}
 use Rattle.ss_gatelog.specs.{declared.gate.Gate.Gate, declared.gate.Header.Header, Log.{open_gate, longest_body, length_bytes, spelled, AreBodies, HasRecords, IsDamaged, HasList}, declared.skim.Reached.Reached, declared.fault.RecordsFault.RecordsFault}
-use Rattle.ss_disk.specs.{declared.disk.Disk.Ghosts, Disk.Files}
+use Rattle.ss_device.specs.{declared.disk.Disk.Ghosts, Disk.Files}
 
 -- these records lead up to this offset of a file, of which no more than the first `limit` bytes are used
 pub record LeadTo (limit : ℕ) (file : List ℕ) (records : List (List ℕ)) (at : ℕ) : Type 0 where
@@ -37,17 +37,17 @@ IsHeader bytes Header.Cut = (slice_index bytes 0 ≡ open_gate) × (length bytes
 
 -- ---- how far a walk over the records of a file came
 
--- some records lead up to this place of a file
+-- some records lead up to this offset of a file
 abbrev pub Walked : ℕ → List ℕ → ℕ → Type 0
 Walked limit file at = (records : List (List ℕ)) × LeadTo limit file records at
 
--- what stands at the place that was reached
+-- what stands at the offset that was reached
 abbrev pub Reaches : ℕ → List ℕ → Reached → Type 0
 Reaches limit file (Reached.Closed at) = (records : List (List ℕ)) × HasRecords limit file records × (at ≡ length (spelled records))
 Reaches limit file (Reached.Unfit at) = IsDamaged limit file at
 Reaches limit file (Reached.Further at) = Walked limit file at
 
--- the place is in the file and in its first `limit` bytes, and a walk that goes on has passed a record
+-- the offset is in the file and in its first `limit` bytes, and a walk that goes on has passed a record
 abbrev pub ReachesWithin : ℕ → ℕ → ℕ → Reached → Type 0
 ReachesWithin from size limit (Reached.Closed at) = (at < size) × (at < limit)
 ReachesWithin from size limit (Reached.Unfit at) = (at < size) × (at < limit)

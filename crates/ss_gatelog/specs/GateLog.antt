@@ -1,16 +1,17 @@
--- What a gate log stands for over a disk, in what a read gives and in each image that a crash may leave; and faults by the count of faults.
-use Rattle.std.specs.Prelude.{◌≡◌, ◌⊎◌, ◌<◌, ℕ, Bool, MatchBool, List, length, take, drop, ◌-◌, ◌≤◌, Result, Err}
-use Rattle.ss_disk.specs.{declared.disk.Disk.Ghosts, Disk.{Files, Rose}}
+-- What a gate log stands for over a disk, in what a read gives and in each image that a crash may leave.
+use Rattle.std.specs.Prelude.{◌≡◌, ◌⊎◌, ◌<◌, ℕ, Bool, MatchBool, List, length, take, drop, ◌-◌}
+use Rattle.ss_device.specs.{declared.disk.Disk.Ghosts, Disk.Files}
+pub use Rattle.ss_device.specs.Faults.{Counts, CountsFault}
 use Rattle.ss_gatelog.specs.Log.{spelled, AreBodies, Spells, InDoubt, HasList, IsShort}
 
--- a log: its file, how many of its bytes it may use, the place of its first closed gate, and whether that gate is in doubt
+-- a log: its file, how many of its bytes it may use, the offset of its first closed gate, and whether that gate is in doubt
 pub record Log : Type 0 where
   pub file : ℕ
   pub limit : ℕ
   pub end : ℕ
   pub unsure : Bool
 
--- each image now has exactly these records, and the log's place is behind the last
+-- each image now has exactly these records, and the log's end is after the last
 pub record IsSure {D : Type 0} (disk : Ghosts D) (now : D) (log : Log) (records : List (List ℕ)) : Type 0 where
   pub each : (left : Files) → disk.image now (disk.moment now) left → Spells records (left log.file)
   pub end : log.end ≡ length (spelled records)
@@ -39,9 +40,3 @@ Opens read was now = (now ≡ was) ⊎ (IsShort read × IsShort now)
 -- what stands between the four bytes and the last of a frame
 abbrev pub body_of : List ℕ → List ℕ
 body_of frame = take (length frame - 5) (drop 4 frame)
-
--- A call answers the disk's fault only where the count of faults rose, and anything else only where it did not.
-pub record CountsFault {T E : Type 0} (fault : E) (before now : ℕ) (result : Result T E) : Type 0 where
-  pub later : before ≤ now
-  pub rose : result ≡ Err fault → Rose before now
-  pub kept : (result ≡ Err fault) ⊎ (now ≡ before)

@@ -1,5 +1,5 @@
 pub mod Log
 pub mod GateLog
 pub mod Gate
-pub use Rattle.ss_disk.specs.Disk
-pub use Rattle.ss_disk.specs.Calls
+pub use Rattle.ss_device.specs.Disk
+pub use Rattle.ss_device.specs.Calls

@@ -1,6 +1,6 @@
 -- The bytes of a gate log, a form of this project's own. A file is a row of records and then a closed gate. A record is an
 -- open gate, the length of its body in four bytes, the most significant first, and the body. A gate is open exactly where
--- its byte is a5. What stands behind the first closed gate counts for nothing.
+-- its byte is a5. What stands after the first closed gate counts for nothing.
 use Rattle.std.specs.{Prelude.{◌≡◌, ◌≢◌, ◌⊎◌, ◌+◌, ◌<◌, ◌≤◌, ℕ, List, [], ◌∷◌, ◌++◌, length, take}, Int.{w32, to_be_bytes}}
 
 -- an open gate
@@ -24,7 +24,7 @@ abbrev pub AreBodies : List (List ℕ) → Type 0
 AreBodies [] = Unit {0}
 AreBodies (body ∷ bodies) = (length body ≤ longest_body) × AreBodies bodies
 
--- the file begins with these records, and a closed gate stands behind the last
+-- the file begins with these records, and a closed gate stands after the last
 pub record Spells (records : List (List ℕ)) (file : List ℕ) : Type 0 where
   pub gate : ℕ
   pub rest : List ℕ
@@ -45,14 +45,14 @@ pub record HasRecords (limit : ℕ) (file : List ℕ) (records : List (List ℕ)
 abbrev pub HasList : ℕ → List ℕ → List (List ℕ) → Type 0
 HasList limit file records = (IsShort file × (records ≡ [])) ⊎ HasRecords limit file records
 
--- An open gate at `at`, before these bytes: a body of n bytes is in bounds, and the gate behind it in the file and its first `limit` bytes.
+-- An open gate at `at`, before these bytes: a body of n bytes is in bounds, and the gate after it in the file and its first `limit` bytes.
 pub record Fits (limit at : ℕ) (rest : List ℕ) (n : ℕ) : Type 0 where
   pub spelled_so : take 4 rest ≡ length_bytes n
   pub in_bounds : n ≤ longest_body
   pub in_file : 4 + n < length rest
   pub in_limit : at + 5 + n < limit
 
--- The file is damaged at this place: records lead up to it, an open gate stands there, and no record fits behind it.
+-- The file is damaged at this offset: records lead up to it, an open gate stands there, and no record fits after it.
 pub record IsDamaged (limit : ℕ) (file : List ℕ) (at : ℕ) : Type 0 where
   pub front : List (List ℕ)
   pub rest : List ℕ
@@ -63,7 +63,7 @@ pub record IsDamaged (limit : ℕ) (file : List ℕ) (at : ℕ) : Type 0 where
   pub not_short : 1 < length file
   pub unfit : (n : ℕ) → Fits limit at rest n → ⊥
 
--- A gate of unknown state stands behind these records: with it closed the file has the first list, with it open the second.
+-- A gate of unknown state stands after these records: with it closed the file has the first list, with it open the second.
 pub record InDoubt (front more : List (List ℕ)) (file : List ℕ) : Type 0 where
   pub gate : ℕ
   pub rest : List ℕ

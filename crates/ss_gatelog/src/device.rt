@@ -1,9 +1,9 @@
 // Writes that are on the disk when they return.
 ghost use Rattle.std.specs.Prelude.{◌≡◌, ◌+◌, ◌^◌, ◌<◌, ◌≤◌, length, IsTrue, IfOk, OnOk};
-ghost use Rattle.ss_disk.specs.Disk.{Files, Holds, Torn, Same, Changes, HasCause};
-ghost use Rattle.ss_disk.specs.Calls.{Goes};
+ghost use Rattle.ss_device.specs.Disk.{Files, Holds, Torn, Same, Changes, HasCause};
+ghost use Rattle.ss_device.specs.Calls.{Goes};
 
-use ss_disk::{Disk, DiskFault};
+use ss_device::{Disk, DiskFault};
 
 /// Writes and syncs. After `Ok` each image now has these bytes there; after a fault each image since has
 /// the range as it was, or in part, or any bytes.

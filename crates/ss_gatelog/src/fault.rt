@@ -14,7 +14,7 @@ pub enum LogFault {
     /// A record would take `need` bytes, its gate and length among them, and there is room for
     /// `room`.
     LogFull { need: u64, room: u64 },
-    /// An open gate stands at `at`, and no record fits behind it.
+    /// An open gate stands at `at`, and no record fits after it.
     Damaged { at: u64 },
 }
 
@@ -32,10 +32,10 @@ impl fmt::Display for LogFault {
 
 impl Error for LogFault {}
 
-impl From<ss_disk::DiskFault> for LogFault {
+impl From<ss_device::DiskFault> for LogFault {
     ghost from_gives = { λ _ fault. fault ≡ log_fault.DiskFault };
 
-    fn from(_fault: ss_disk::DiskFault) -> Self {
+    fn from(_fault: ss_device::DiskFault) -> Self {
         LogFault::DiskFault
     }
 }
@@ -63,10 +63,10 @@ impl fmt::Display for RecordsFault {
 
 impl Error for RecordsFault {}
 
-impl From<ss_disk::DiskFault> for RecordsFault {
+impl From<ss_device::DiskFault> for RecordsFault {
     ghost from_gives = { λ _ fault. fault ≡ records_fault.DiskFault };
 
-    fn from(_fault: ss_disk::DiskFault) -> Self {
+    fn from(_fault: ss_device::DiskFault) -> Self {
         RecordsFault::DiskFault
     }
 }

@@ -1,17 +1,17 @@
 //! A log of records in one file of a disk, of which a crash leaves whole records.
 //!
 //! The form of the file is `specs/Log.antt`: a record is an open gate, which is the byte `a5`, the length of its
-//! body in four bytes, and the body; a closed gate stands behind the last. A file has the records before its
-//! first closed gate, and what stands behind that gate counts for nothing.
+//! body in four bytes, and the body; a closed gate stands after the last. A file has the records before its
+//! first closed gate, and what stands after that gate counts for nothing.
 //!
-//! Contracts see a [`GateLog`] as its file, its limit, the place of its first closed gate, and whether that gate
+//! Contracts see a [`GateLog`] as its file, its limit, the offset of its first closed gate, and whether that gate
 //! is in doubt. Over a disk it stands for a list of bodies (`specs/GateLog.antt`). Where it is sure, every image
 //! has exactly this list; where it is in doubt, every image has this list or one other, by that one gate.
 //!
 //! The one contract is that of [`GateLog::append`]: every image since the start of the call has the old list, or
-//! the old list with the record behind it, whatever the answer; after `Ok` every image has the record. It holds
-//! since the record and the closed gate behind it are synced before the one byte of the gate in front is opened.
-//! [`GateLog::open`] gives exactly the list that a file has, or the place at which the file is damaged; that each
+//! the old list with the record after it, whatever the answer; after `Ok` every image has the record. It holds
+//! since the record and the closed gate after it are synced before the one byte of the gate before it is opened.
+//! [`GateLog::open`] gives exactly the list that a file has, or the offset at which the file is damaged; that each
 //! file has the one or the other, and only one of it, is in [`laws`].
 //!
 //! [`Records`] opens a file and lends its bodies one after another, in one pass over the file

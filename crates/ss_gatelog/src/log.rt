@@ -1,20 +1,21 @@
-ghost use Rattle.std.specs.Prelude.{◌≡◌, ◌⊎◌, ◌+◌, ◌-◌, ◌^◌, ◌<◌, ◌≤◌, ◌↔◌, ◌∷◌, ◌++◌, [], ℕ, List, true, false, IsTrue, length, slice_range, Err, Some, None, IsOk, IsErr, IfOk, IfSome, OnOk, OnErr, IsErrOf};
-ghost use Rattle.ss_disk.specs.Disk.{Torn, Same, Changes, Rose, HasCause};
-ghost use Rattle.ss_disk.specs.Calls.{Goes, Touches, Leaves};
+ghost use Rattle.std.specs.Prelude.{◌≡◌, ◌+◌, ◌-◌, ◌^◌, ◌<◌, ◌≤◌, ◌↔◌, ◌∷◌, ◌++◌, [], ℕ, List, true, false, IsTrue, length, slice_range, Err, Some, None, IsOk, IsErr, IfOk, IfSome, OnOk, OnErr, IsErrOf};
+ghost use Rattle.ss_device.specs.Disk.{Torn, Same, Changes, HasCause};
+ghost use Rattle.ss_device.specs.Calls.{Goes, Touches, Leaves};
+ghost use Rattle.ss_device.specs.Faults.{CountsFault};
 ghost use Rattle.ss_gatelog.specs.Log.{longest_body, spelled, HasList, IsDamaged};
 
 use crate::LogFault;
 use crate::device::{synced_size, write_synced};
 use crate::frame::{CLOSED, HEAD, OPEN, length_of, seal};
 use crate::skim::skim;
-use ss_disk::Disk;
+use ss_device::Disk;
 use std::marker::Model;
 
 /// A log of records in one file of a disk.
 ///
 /// A record is a gate of one byte, the length of the body in four bytes, big-endian, and the body;
-/// a closed gate stands behind the last. A record counts from the moment its gate is open, and the
-/// gate is opened only when the record and the closed gate behind it are synced.
+/// a closed gate stands after the last. A record counts from the moment its gate is open, and the
+/// gate is opened only when the record and the closed gate after it are synced.
 #[derive(Debug, Drop)]
 pub struct GateLog {
     file: u8,
@@ -61,7 +62,7 @@ impl GateLog {
 
     /// Opens the log of a file. A file of less than two bytes becomes an empty log.
     ///
-    /// First `DiskFault`, then `Damaged` at the first open gate behind which no record fits; both leave
+    /// First `DiskFault`, then `Damaged` at the first open gate after which no record fits; both leave
     /// the file as it was, unless it was made an empty log.
     pub fn open<D: Disk>(disk: &mut D, file: u8, limit: u64) -> Result<GateLog, LogFault>
         requires file { file < 6 }
@@ -72,8 +73,7 @@ impl GateLog {
         ensures known { IfOk result (λ log. log.end + 1 ≤ D.known disk.new file) }
         ensures goes { Goes D.Disk (Changes file (Opens (D.files disk.old file))) disk.old disk.new }
         ensures not_full { (need room : ℕ) → (result ≡ Err (LogFault.LogFull need room)) → ⊥ }
-        ensures fault { IsErrOf result LogFault.DiskFault → Rose (D.faults disk.old) (D.faults disk.new) }
-        ensures no_fault { (result ≡ Err LogFault.DiskFault) ⊎ (D.faults disk.new ≡ D.faults disk.old) }
+        ensures counts { CountsFault LogFault.DiskFault (D.faults disk.old) (D.faults disk.new) result }
     {
         let size = synced_size(disk, file)?;
         if size <= 1 {
@@ -121,7 +121,7 @@ impl GateLog {
         Ok(())
     }
 
-    /// Appends a record and answers the place of its body. The frame is four bytes for the length, the
+    /// Appends a record and answers the offset of its body. The frame is four bytes for the length, the
     /// body, and one byte for the next gate; the first four and the last are filled in here.
     ///
     /// First `LogFull`, which touches nothing; then `DiskFault`, after which the gate at the end may be
@@ -138,8 +138,7 @@ impl GateLog {
         ensures stops { (records : List (List ℕ)) → IsTrue D.told → IsSure D.Disk disk.old self.old records → Leaves D.Disk self.old.file (HasEither self.old.limit records (records ++ body_of frame.old ∷ [])) disk.old disk.new }
         ensures full { (need room : ℕ) → (result ≡ Err (LogFault.LogFull need room)) ↔ ((need ≡ length frame.old) × (room ≡ self.old.limit - 1 - self.old.end) × (room < need)) }
         ensures untouched { self.old.limit - 1 - self.old.end < length frame.old → (self.new ≡ self.old) × (disk.new ≡ disk.old) × (frame.new ≡ frame.old) }
-        ensures fault { IsErrOf result LogFault.DiskFault → Rose (D.faults disk.old) (D.faults disk.new) }
-        ensures no_fault { (result ≡ Err LogFault.DiskFault) ⊎ (D.faults disk.new ≡ D.faults disk.old) }
+        ensures counts { CountsFault LogFault.DiskFault (D.faults disk.old) (D.faults disk.new) result }
         ensures not_damaged { (at : ℕ) → IsErrOf result (LogFault.Damaged at) → ⊥ }
         ensures known { self.new.end + 1 ≤ D.known disk.new self.new.file }
         ensures touches { Touches D.Disk self.old.file disk.old disk.new }
@@ -187,7 +186,7 @@ impl GateLog {
         Ok(())
     }
 
-    /// The place and the length of the body of the record whose gate is at `at`, or none at the end.
+    /// The offset and the length of the body of the record whose gate is at `at`, or none at the end.
     pub fn entry<D: Disk>(&self, disk: &mut D, at: u64) -> Result<Option<(u64, u32)>, LogFault>
         requires place { at ≤ self.now.end }
         requires known { self.now.end + 1 ≤ D.known disk.old self.now.file }
@@ -231,7 +230,7 @@ impl GateLog {
         self.file
     }
 
-    /// The place of the first closed gate.
+    /// The offset of the first closed gate.
     pub fn end(&self) -> u64
         ensures end { result ≡ self.now.end }
         ensures within { result < self.now.limit }

@@ -1,20 +1,21 @@
 ghost use Rattle.std.specs.Prelude.{◌≡◌, ◌⊎◌, ◌+◌, ◌^◌, ◌<◌, ◌≤◌, [], ℕ, List, true, false, length, IsTrue, IsOk, IsErr, IfOk};
-ghost use Rattle.ss_disk.specs.Disk.{Same, Changes, HasCause};
-ghost use Rattle.ss_disk.specs.Calls.{Goes};
-ghost use Rattle.ss_gatelog.specs.GateLog.{CountsFault};
+ghost use Rattle.ss_device.specs.Disk.{Same, Changes, HasCause};
+ghost use Rattle.ss_device.specs.Calls.{Goes};
+ghost use Rattle.ss_device.specs.Faults.{CountsFault};
 
 use crate::device::synced_size;
 use crate::frame::HEAD;
 use crate::gate::{Gate, judge};
 use crate::window::Window;
 use crate::{GateLog, LogFault, RecordsFault};
-use ss_disk::{Disk, DiskFault};
+use ss_device::{Disk, DiskFault};
 use std::alloc::Global;
 use std::marker::Model;
 
 /// A reader of the records of a log, from the first to the last, in one pass over the file.
 ///
-/// It costs one sync and one size of the file, and a read for each 64 KiB or longer record.
+/// It costs one sync and one size of the file, and a read for each 64 KiB or longer record. It holds no more bytes than those
+/// of the longest record and a piece of 64 KiB.
 #[derive(Debug, Drop)]
 pub struct Records {
     file: u8,
@@ -37,7 +38,7 @@ impl Model for Records {
 
     ghost view = { λ r. record { file = r.file; size = r.size; limit = r.limit; at = r.at; body = drop 5 (take r.lent r.window); ahead = drop r.lent r.window; ended = r.ended } };
 
-    ghost invariant = { λ r. (r.file < 6) × (r.limit ≤ 2 ^ 40) × (r.at < r.limit) × ((r.at < r.size) ⊎ (r.at ≡ 0)) × (r.lent ≤ length r.window) };
+    ghost invariant = { λ r. (r.file < 6) × (r.limit ≤ 2 ^ 40) × (r.at < r.limit) × ((r.at < r.size) ⊎ (r.at ≡ 0)) × (r.lent ≤ length r.window) × (length r.window ≤ 16842757) };
 }
 
 impl Records {
@@ -80,6 +81,7 @@ impl Records {
         ensures lends { (records : List (List ℕ)) → IsTrue D.told → HasLent D.Disk disk.old self.old records → Lends D.Disk disk.new self.old self.new records result }
         ensures reaches { ReadsOn self.old self.new result }
         ensures same { ReadsSame self.old self.new }
+        ensures little { length self.new.body + length self.new.ahead ≤ 16842757 }
         ensures goes { Goes D.Disk Same disk.old disk.new }
         ensures fault { CountsFault RecordsFault.DiskFault (D.faults disk.old) (D.faults disk.new) result }
     {

@@ -1,13 +1,14 @@
 // A walk over the records of a file, of which only the heads are looked at.
 ghost use Rattle.std.specs.Prelude.{◌≡◌, ◌⊎◌, ◌+◌, ◌^◌, ◌<◌, ◌≤◌, ℕ, List, length, IsTrue, Err, IfOk, IsErrOf, slice_range};
-ghost use Rattle.ss_disk.specs.Disk.{Same, Rose};
-ghost use Rattle.ss_disk.specs.Calls.{Goes};
+ghost use Rattle.ss_device.specs.Calls.{Goes};
+ghost use Rattle.ss_device.specs.Disk.{Same};
+ghost use Rattle.ss_device.specs.Faults.{CountsFault};
 ghost use Rattle.ss_gatelog.specs.Log.{spelled, HasRecords, IsDamaged};
 ghost use Rattle.ss_gatelog.specs.Gate.{Walked, Reaches, ReachesWithin};
 
 use crate::LogFault;
 use crate::gate::{Gate, judge};
-use ss_disk::Disk;
+use ss_device::Disk;
 
 /// How many bytes are read at once: a read of each head alone takes three times as long.
 const PIECE: usize = 4096;
@@ -17,13 +18,13 @@ const PIECE: usize = 4096;
 pub(crate) enum Reached {
     /// A closed gate.
     Closed { at: u64 },
-    /// An open gate behind which no record fits.
+    /// An open gate after which no record fits.
     Unfit { at: u64 },
     /// A gate past the piece, or too near its end.
     Further { at: u64 },
 }
 
-/// The place of the first closed gate of a file of `size` bytes.
+/// The offset of the first closed gate of a file of `size` bytes.
 pub(crate) fn skim<D: Disk>(disk: &mut D, file: u8, limit: u64, size: u64) -> Result<u64, LogFault>
     requires file { file < 6 }
     requires limit { (1 ≤ limit) × (limit ≤ 2 ^ 40) }
@@ -33,8 +34,7 @@ pub(crate) fn skim<D: Disk>(disk: &mut D, file: u8, limit: u64, size: u64) -> Re
     ensures within { IfOk result (λ end. (end < size) × (end < limit)) }
     ensures damaged { (at : ℕ) → IsErrOf result (LogFault.Damaged at) → (IsTrue D.told → IsDamaged limit (D.files disk.old file) at) × (at < size) × (at < limit) }
     ensures not_full { (need room : ℕ) → (result ≡ Err (LogFault.LogFull need room)) → ⊥ }
-    ensures fault { IsErrOf result LogFault.DiskFault → Rose (D.faults disk.old) (D.faults disk.new) }
-    ensures no_fault { (result ≡ Err LogFault.DiskFault) ⊎ (D.faults disk.new ≡ D.faults disk.old) }
+    ensures counts { CountsFault LogFault.DiskFault (D.faults disk.old) (D.faults disk.new) result }
     ensures reads { Goes D.Disk Same disk.old disk.new }
 {
     let mut piece = [0u8; PIECE];

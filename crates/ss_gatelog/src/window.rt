@@ -1,12 +1,12 @@
 // Bytes of a file that were read ahead.
-ghost use Rattle.std.specs.Prelude.{◌≡◌, ◌⊎◌, ◌+◌, ◌-◌, ◌^◌, ◌<◌, ◌≤◌, ◌++◌, [], ℕ, length, drop, slice_range, IsTrue, Err, OnOk, OnErr};
-ghost use Rattle.ss_disk.specs.Disk.{Same};
-ghost use Rattle.ss_disk.specs.Calls.{Goes};
+ghost use Rattle.std.specs.Prelude.{◌≡◌, ◌⊎◌, ◌+◌, ◌-◌, ◌^◌, ◌<◌, ◌≤◌, ◌++◌, [], ℕ, max, length, drop, slice_range, IsTrue, Err, OnOk, OnErr};
+ghost use Rattle.ss_device.specs.Disk.{Same};
+ghost use Rattle.ss_device.specs.Calls.{Goes};
 ghost use Rattle.ss_gatelog.specs.Gate.{IsPiece};
-ghost use Rattle.ss_gatelog.specs.GateLog.{CountsFault};
+ghost use Rattle.ss_device.specs.Faults.{CountsFault};
 
 use crate::RecordsFault;
-use ss_disk::Disk;
+use ss_device::Disk;
 use std::alloc::{AllocError, Global};
 use std::marker::Model;
 
@@ -58,7 +58,8 @@ impl Window {
         self.start += count;
     }
 
-    /// Reads on until there are `need` bytes, where the first of them lies at `at` in a file of `size` bytes.
+    /// Reads on until there are `need` bytes, where the first of them lies at `at` in a file of `size` bytes. It reads no more
+    /// than a piece beyond them.
     pub(crate) fn cover<D: Disk>(
         &mut self,
         disk: &mut D,
@@ -72,6 +73,7 @@ impl Window {
         requires known { size ≤ D.known disk.old file }
         ensures piece { IsTrue D.told → IsPiece (D.files disk.old file) at self.old → IsPiece (D.files disk.old file) at self.new }
         ensures covers { OnOk result (need ≤ length self.new) }
+        ensures few { length self.new ≤ max (length self.old) (need + 65536) }
         ensures goes { Goes D.Disk Same disk.old disk.new }
         ensures fault { CountsFault RecordsFault.DiskFault (D.faults disk.old) (D.faults disk.new) result }
         ensures errors { (e : _) → result ≡ Err e → (e ≡ RecordsFault.NoMemory) ⊎ (e ≡ RecordsFault.DiskFault) }

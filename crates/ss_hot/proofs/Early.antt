@@ -1,9 +1,9 @@
 -- The first two records of a file.
 use Rattle.std.proofs.Common.{◌≡◌, ◌⊎◌, ⊎_elim, ℕ, ◌<◌, ◌≤◌, Bool, true, false, IsTrue, List, [], ◌∷◌, ◌++◌, length, refl, sym, ◌∙◌, ap, subst, arith, length-append}
 use Rattle.std.specs.Prelude.{Ok, Option, Some, None, MatchBool}
-use Rattle.ss_disk.specs.declared.disk.Disk.{Ghosts}
-use Rattle.ss_disk.specs.Disk.{Same}
-use Rattle.ss_disk.specs.Calls.{Goes}
+use Rattle.ss_device.specs.declared.disk.Disk.{Ghosts}
+use Rattle.ss_device.specs.Disk.{Same}
+use Rattle.ss_device.specs.Calls.{Goes}
 use Rattle.ss_gatelog.specs.Log.{longest_body, spelled}
 use Rattle.ss_gatelog.specs.Gate.{Reader, HasLent}
 use Rattle.ss_records.specs.declared.record.Config.{Config as Settings}

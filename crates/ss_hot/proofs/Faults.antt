@@ -1,10 +1,10 @@
 -- What an answer says of its parts.
 use Rattle.std.proofs.Common.{◌≡◌, inl, inr, ⊎_elim, ℕ, refl, ◌∙◌, ap, subst, arith}
 use Rattle.std.specs.Prelude.{Result, Ok, Err, Option, Some, IfSome}
-use Rattle.ss_disk.specs.declared.disk.Disk.{Ghosts}
-use Rattle.ss_disk.specs.Disk.{Same, Rose}
-use Rattle.ss_disk.specs.Calls.{Goes}
-use Rattle.ss_disk.proofs.Goes.{stays, then_same}
+use Rattle.ss_device.specs.declared.disk.Disk.{Ghosts}
+use Rattle.ss_device.specs.Disk.{Same, Rose}
+use Rattle.ss_device.specs.Calls.{Goes}
+use Rattle.ss_device.proofs.Goes.{stays, then_same}
 use Rattle.ss_gatelog.specs.GateLog.{CountsFault}
 use Rattle.ss_gatelog.specs.declared.fault.RecordsFault.{RecordsFault}
 use Rattle.ss_gatelog.specs.declared.fault.RecordsFault.TheVariants as reading

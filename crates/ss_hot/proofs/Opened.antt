@@ -3,9 +3,9 @@ use Rattle.std.proofs.Common.{◌≡◌, inl, inr, ⊎_elim, ℕ, ◌+◌, ◌<�
 use Rattle.std.specs.Prelude.{Ok}
 use Rattle.std.proofs.lemmas.Bool.{cases_lt}
 use Rattle.std.proofs.lemmas.List.{take_at}
-use Rattle.ss_disk.specs.declared.disk.Disk.{Ghosts}
-use Rattle.ss_disk.specs.Disk.{Files, Same}
-use Rattle.ss_disk.specs.Calls.{Goes}
+use Rattle.ss_device.specs.declared.disk.Disk.{Ghosts}
+use Rattle.ss_device.specs.Disk.{Files, Same}
+use Rattle.ss_device.specs.Calls.{Goes}
 use Rattle.ss_gatelog.specs.Log.{open_gate, longest_body, length_bytes, spelled, AreBodies, HasRecords, HasList, IsDamaged}
 use Rattle.ss_gatelog.specs.GateLog.{Log, IsSure}
 use Rattle.ss_gatelog.specs.Gate.{LeadTo, Reader, HasLent, ReadsSame}

@@ -18,7 +18,7 @@ use Rattle.ss_store.specs.Append.{bodies}
 use Rattle.ss_hot.specs.Half.{hot_after, hot_from, hot_blocks, places_after, places_from, hot_places}
 use Rattle.std.proofs.Common.{Bool, true, false}
 use Rattle.std.proofs.lemmas.Bool.Decides.{when_true, when_false}
-use Rattle.ss_disk.specs.declared.disk.Disk.{Ghosts}
+use Rattle.ss_device.specs.declared.disk.Disk.{Ghosts}
 use Rattle.ss_gatelog.specs.GateLog.{Log, IsSure, IsDoubted, Stands}
 use Rattle.ss_gatelog.proofs.Bytes.{length-length_bytes}
 use Rattle.ss_hot.specs.Store.{Hot, Keeps}

@@ -1,7 +1,7 @@
 -- A store that is kept is found again by the next opening.
 use Rattle.std.proofs.Common.{◌≡◌, inr, ℕ, false, List, length, arith}
-use Rattle.ss_disk.specs.declared.disk.Disk.{Ghosts}
-use Rattle.ss_disk.specs.Disk.{Files}
+use Rattle.ss_device.specs.declared.disk.Disk.{Ghosts}
+use Rattle.ss_device.specs.Disk.{Files}
 use Rattle.ss_gatelog.specs.Log.{spelled, AreBodies, Spells}
 use Rattle.ss_records.specs.declared.record.Record.{Record}
 use Rattle.ss_store.specs.Append.{bodies}

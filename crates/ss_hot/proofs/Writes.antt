@@ -4,9 +4,9 @@ use Rattle.std.specs.Prelude.{None, All, MatchBool, Result, Ok, Err, OnOk, OnErr
 use Rattle.std.specs.Ordering.{nat_cmp}
 use Rattle.std.specs.Cmp.Lexicographic.{slice_cmp}
 use Rattle.std.specs.FinMap as finite_map
-use Rattle.ss_disk.specs.declared.disk.Disk.{Ghosts}
-use Rattle.ss_disk.specs.Calls.{Touches, Leaves}
-use Rattle.ss_disk.proofs.Goes.{leaves_none, touches_on}
+use Rattle.ss_device.specs.declared.disk.Disk.{Ghosts}
+use Rattle.ss_device.specs.Calls.{Touches, Leaves}
+use Rattle.ss_device.proofs.Goes.{leaves_none, touches_on}
 use Rattle.ss_gatelog.specs.Log.{spelled}
 use Rattle.ss_gatelog.specs.GateLog.{Log, IsSure, IsDoubted, Stands, HasEither}
 use Rattle.ss_gatelog.proofs.Steps.{length-spelled-at}

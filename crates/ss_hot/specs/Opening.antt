@@ -1,6 +1,6 @@
 -- How far the opening of a file came, and what its walk over the records has gathered.
 use Rattle.std.specs.Prelude.{◌≡◌, ◌+◌, ◌^◌, ◌<◌, ◌≤◌, List, IsTrue, length, ℕ, [], ◌∷◌, Some, Ok}
-use Rattle.ss_disk.specs.declared.disk.Disk.{Ghosts}
+use Rattle.ss_device.specs.declared.disk.Disk.{Ghosts}
 use Rattle.ss_gatelog.specs.{Log.longest_body, Gate.{HasLent, ReadsSame}}
 use Rattle.ss_records.specs.{declared.record.Record.Record, Record.spelling, Fields.read_record}
 use Rattle.ss_store.specs.{Append.bodies, declared.place.Place.Place, Places.CidMap}

@@ -1,6 +1,6 @@
 -- What a hot store tells, what it stands for over a disk, and what a call that writes one record does to both.
 use Rattle.std.specs.{Prelude.{◌≡◌, ℕ, ◌+◌, ◌-◌, ◌<◌, ◌≤◌, List, All, Option, Some, None, ◌⊎◌, IsTrue, false, [], ◌∷◌, ◌++◌, length, Result, Err, IsOk, OnOk, OnErr, Bool, refl}, Coded.{Coded, code_by, coded×, coded_ℕ, coded_bool, coded_list, coded_option}}
-use Rattle.ss_disk.specs.{declared.disk.Disk.Ghosts, Disk.Same, Calls.{Goes, Touches, Leaves}}
+use Rattle.ss_device.specs.{declared.disk.Disk.Ghosts, Disk.Same, Calls.{Goes, Touches, Leaves}}
 use Rattle.ss_gatelog.specs.GateLog.{Log, Stands, CountsFault, HasEither}
 use Rattle.ss_records.specs.{declared.record.Config.Config as Settings, declared.record.Record.Record, Record.{spelling, SettingsFit}}
 use Rattle.ss_store.specs.{declared.place.Place.Place, Places.{CidMap, places_code}, Append.bodies, declared.fault.StoreFault.StoreFault}

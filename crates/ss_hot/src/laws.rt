@@ -1,7 +1,7 @@
 //! Laws of a half's records. Each function does nothing: its contract is the law.
 ghost use Rattle.std.specs.Prelude.{◌≡◌, ◌⊎◌, ◌+◌, ◌++◌, ◌<◌, ℕ, List, false, length, slice_index, slice_range, option_map};
 ghost use Rattle.std.specs.FinMap as finite_map;
-ghost use Rattle.ss_disk.specs.Disk.{Files};
+ghost use Rattle.ss_device.specs.Disk.{Files};
 ghost use Rattle.ss_gatelog.specs.Log.{spelled};
 ghost use Rattle.ss_records.specs.declared.record.Config.{Config as Settings};
 ghost use Rattle.ss_records.specs.declared.record.Record.{Record};
@@ -10,7 +10,7 @@ ghost use Rattle.ss_store.specs.Append.{bodies};
 ghost use Rattle.ss_hot.specs.Half.{hot_blocks, hot_places};
 ghost use Rattle.ss_hot.specs.Store.{Hot, Keeps};
 
-use ss_disk::Disk;
+use ss_device::Disk;
 
 /// The places of the hot blocks tell which blocks are hot, and how long each is.
 pub fn places_tell_blocks()

@@ -1,5 +1,5 @@
 -- How much of a CAR was read, one section further, and to its end.
-use Rattle.std.proofs.Common.{◌≡◌, ℕ, ◌+◌, List, [], ◌∷◌, ◌++◌, length, Option, None, Some, refl, sym, ap, ◌∙◌, subst, append_assoc, arith, length-append}
+use Rattle.std.proofs.Common.{◌≡◌, ℕ, ◌+◌, ◌^◌, ◌≤◌, List, [], ◌∷◌, ◌++◌, length, Option, None, Some, refl, sym, ap, ◌∙◌, subst, append_assoc, arith, length-append}
 use Rattle.std.specs.Option.{ForSome}
 use Rattle.std.specs.Io.KnownBytes.{Consumes, IsAtEnd}
 use Rattle.std.proofs.lemmas.List.{append-nil}
@@ -65,11 +65,12 @@ taken_more old mid new roots sections taken now cid block was is count = λ all 
     )
 
 -- the input ended behind it
-pub whole : (old new : Option (List ℕ)) (roots : List (List ℕ)) (sections : List Section) (taken : ℕ) → HasTaken old new roots sections taken → IsAtEnd new → IsWhole old roots sections
-whole old new roots sections taken was ended = λ all same.
+pub whole : (old new : Option (List ℕ)) (roots : List (List ℕ)) (sections : List Section) (taken : ℕ) → HasTaken old new roots sections taken → IsAtEnd new → taken ≤ 2 ^ 40 → IsWhole old roots sections
+whole old new roots sections taken was ended short = λ all same.
     let begun = (was all same).0 in
     let none : begun.rest ≡ [] = subst IsAtEnd (was all same).1 ended in
-    subst (λ b. IsCar b roots sections None) (sym (begun.spelled ∙ ap (λ l. begun.front ++ l) none ∙ append-nil begun.front)) begun.is_car
+    let all_is : all ≡ begun.front = begun.spelled ∙ ap (λ l. begun.front ++ l) none ∙ append-nil begun.front in
+    (omega (arith, ap length all_is, begun.end_is, short), subst (λ b. IsCar b roots sections None) (sym all_is) begun.is_car)
 
 -- the CAR is at fault behind it
 pub refused : (old new : Option (List ℕ)) (roots : List (List ℕ)) (sections : List Section) (taken : ℕ) (fault : CarFault) → HasTaken old new roots sections taken → ForSome new (λ bytes. NextFault bytes fault)

@@ -1,7 +1,7 @@
 -- An import that nothing stands in the way of comes to its end, or runs out of memory.
 use Rattle.std.proofs.Common.{◌≡◌, ◌⊎◌, inl, inr, ⊎_elim, ℕ, zero, suc, ◌+◌, ◌<◌, ◌≤◌, Bool, true, false, ◌||◌, List, [], ◌∷◌, ◌++◌, map, length, Option, Some, None, Result, Ok, Err, refl, sym, ap, ◌∙◌, subst, arith, append_assoc, length-append, true≢false}
 use Rattle.std.specs.Option.{option_or}
-use Rattle.std.specs.Prelude.{IsOk, option_map}
+use Rattle.std.specs.Prelude.{IsOk, option_map, if◌then◌else◌}
 use Rattle.std.specs.List.{list_any}
 use Rattle.std.specs.FinMap as finite_map
 use Rattle.std.proofs.lemmas.List.{append-nil, map-append}
@@ -12,7 +12,7 @@ use Rattle.ss_car.proofs.Sections.{car-one, car-split}
 use Rattle.ss_chain.specs.Tipset.{fault_in, tipset_of}
 use Rattle.ss_model.specs.State.{State, Kept}
 use Rattle.ss_model.specs.Head.{IsHead, head_refusal, answer_of, blocks_of}
-use Rattle.ss_model.specs.Lawful.{LawfulHead, After, AreSound, IsSound, IsSmall, with_blocks, put_bytes, length_of}
+use Rattle.ss_model.specs.Lawful.{LawfulHead, After, is_disk_fault, AreSound, IsSound, IsSmall, with_blocks, put_bytes, length_of}
 use Rattle.ss_model.specs.Lawful.{Legal, AfterAll}
 use Rattle.ss_model.specs.declared.TheConstants.{PUT_BYTES}
 use Rattle.ss_model.specs.declared.call.Call.TheVariants as call
@@ -23,16 +23,17 @@ use Rattle.ss_model.specs.declared.call.PutReply.TheVariants as put
 use Rattle.ss_model.specs.declared.call.HeadReply.{HeadReply}
 use Rattle.ss_model.specs.declared.call.HeadReply.TheVariants as head
 use Rattle.ss_model.specs.declared.call.Entry.{Entry}
-use Rattle.ss_history.specs.Story.{AreRooms, faults_in, is_refused}
+use Rattle.ss_history.specs.Story.{HavePlace, faults_in, is_refused}
+use Rattle.ss_history.proofs.Stories.{faults_more}
 use Rattle.ss_history.proofs.Fulfilled.{fulfilled}
 use Rattle.ss_import.specs.declared.fault.BlockFault.{BlockFault}
 use Rattle.ss_import.specs.declared.fault.BlockFault.TheVariants as block
 use Rattle.ss_import.specs.declared.fault.ImportFault.{ImportFault}
 use Rattle.ss_import.specs.declared.fault.ImportFault.TheVariants as import
 use Rattle.ss_import.specs.declared.importer.Imported.{Imported}
-use Rattle.ss_import.specs.Import.{entry, pair_of, ArePuts, IsLastPut, IsLastHead, AreRead, IsWhole, EndsPuts, EndsReading, EndsHead, IsBlockFault, IsImport, AreCalls, IsImportable}
+use Rattle.ss_import.specs.Import.{entry, pair_of, ArePuts, IsLastPut, IsLastHead, AreRead, IsWhole, EndsPuts, EndsReading, EndsHead, IsBlockFault, IsImport, IsImportable, IsFull, entries_of}
 use Rattle.ss_import.proofs.Kept.{AreSmall, HasStored, puts_keep, blocks_small}
-use Rattle.ss_import.proofs.Puts.{puts_read, puts_before}
+use Rattle.ss_import.proofs.Puts.{puts_before}
 use Rattle.ss_import.proofs.Putting.{opened}
 use Rattle.ss_import.proofs.Unsound.{not_unknown, not_mismatch, not_malformed}
 
@@ -95,15 +96,15 @@ refused_lawfully s cids height (head.Set n) is lawful ends = ends
 
 -- ---- an import
 
-module _ (wants : Bool) (bytes : List ℕ) (roots : List (List ℕ)) (sections : List Section) (s : State) (end : ℕ) (fine : IsImportable wants bytes roots sections s end) (small : AreSmall s.kept)
+module _ (wants : Bool) (bytes : List ℕ) (roots : List (List ℕ)) (sections : List Section) (s : State) (fine : IsImportable wants bytes roots sections s) (small : AreSmall s.kept)
     (v : ℕ) (these : List (List ℕ)) (read left : List Section) (puts last : List Entry) (are_puts : ArePuts v read puts left) (is_read : AreRead (Some bytes) these read)
-    (legal : Legal s (opened v ∷ (puts ++ last))) (rooms : AreRooms s end (opened v ∷ (puts ++ last))) (none : faults_in (opened v ∷ (puts ++ last)) ≡ 0) where
+    (legal : Legal s (opened v ∷ (puts ++ last))) (none : faults_in (opened v ∷ (puts ++ last)) ≡ 0) where
   abbrev begun : State
   begun = After s call.OpenView (answer.View (ViewReply.Opened v))
 
   -- the sections that were read are the first of all
   first : (more : List Section) × (sections ≡ read ++ more)
-  first = ⊎_elim (λ nothing. (sections, ap (λ l. l ++ sections) (sym nothing))) (λ told. let b = (told bytes refl).1 in (car-split b.front b.rest these roots read sections None b.is_car (subst (λ l. IsCar l roots sections None) b.spelled fine.car)).1) is_read
+  first = ⊎_elim (λ nothing. (sections, ap (λ l. l ++ sections) (sym nothing))) (λ told. let b = (told bytes refl).2 in (car-split b.front b.rest these roots read sections None b.is_car (subst (λ l. IsCar l roots sections None) b.spelled fine.car)).1) is_read
 
   stored : HasStored s.kept (AfterAll begun puts).kept read left
   stored = puts_keep begun v read puts left are_puts
@@ -114,22 +115,11 @@ module _ (wants : Bool) (bytes : List ℕ) (roots : List (List ℕ)) (sections :
   sound_read : AreSound (map pair_of read)
   sound_read = sound_front (map pair_of read) (map pair_of first.0) (subst AreSound pairs_are fine.sound)
 
-  calls : (last ≡ []) ⊎ (((reply : PutReply) × IsLastPut v left last reply) ⊎ ((reply : HeadReply) × IsLastHead roots last reply)) → AreCalls roots sections (opened v ∷ (puts ++ last))
-  calls ends = record {
-    view = v;
-    puts = puts;
-    left = left ++ first.0;
-    last = last;
-    are = refl;
-    are_puts = subst (λ l. ArePuts v l puts (left ++ first.0)) (sym first.1) (puts_read v read puts left first.0 are_puts);
-    ends = ⊎_elim (λ nothing. inl nothing) (⊎_elim (λ p. inr (inl (p.0, (p.1.0, p.1.1 ++ first.0, ap (λ l. l ++ first.0) p.1.2 ∙ append_assoc p.1.0 p.1.1 first.0, p.1.3, p.1.4)))) (λ h. inr (inr h))) ends;
-  }
-
-  -- no entry is a fault of the disk, a full log or a full table
-  never : (e : Entry) → last ≡ e ∷ [] → AreCalls roots sections (opened v ∷ (puts ++ last)) → is_refused e ≡ true → ⊥
-  never e is made wrong =
-      let all = fulfilled s end (opened v ∷ (puts ++ last)) legal rooms (fine.place (opened v ∷ (puts ++ last)) made legal) none in
-      true≢false (sym (any_last is_refused (opened v ∷ puts) e wrong) ∙ ap (λ l. list_any is_refused (opened v ∷ (puts ++ l))) (sym is) ∙ all)
+  -- no entry is a fault of the disk
+  never : (e : Entry) → last ≡ e ∷ [] → is_disk_fault e.answer ≡ true → ⊥
+  never e is wrong =
+      let all = faults_more (opened v ∷ puts) e ∙ ap (λ b. faults_in (opened v ∷ puts) + (if b then 1 else 0)) wrong in
+      omega (arith, all, none, ap (λ l. faults_in (opened v ∷ (puts ++ l))) is)
 
   bad_block : (x : Section) (more : List Section) (fault : BlockFault) → left ≡ x ∷ more → IsBlockFault v puts x fault → ⊥
   bad_block x more fault is blames = by fault blames
@@ -148,11 +138,11 @@ module _ (wants : Bool) (bytes : List ℕ) (roots : List (List ℕ)) (sections :
           let there = legal_behind begun b.1 (entry (call.Put v (pair_of x ∷ [])) (answer.Put (put.TooBig b.0)) ∷ last) (subst (Legal begun) (ap (λ l. l ++ last) b.2 ∙ append_assoc b.1 _ last) legal.1) in
           not_big (AfterAll begun b.1).kept (pair_of x) short sound.small there.0.2
 
-  put_ends : (fault : ImportFault) → EndsPuts v puts left last fault → fault ≡ import.NoMemory
-  put_ends import.NoMemory ends = refl
-  put_ends import.DiskFault ends = absurd (never _ ends.4 (calls (inr (inl (put.DiskFault, ends)))) refl)
-  put_ends (import.LogFull file need room) ends = absurd (never _ ends.4 (calls (inr (inl (put.LogFull file need room, ends)))) refl)
-  put_ends (import.TableFull rows) ends = absurd (never _ ends.4 (calls (inr (inl (put.TableFull rows, ends)))) refl)
+  put_ends : (fault : ImportFault) → EndsPuts v puts left last fault → (fault ≡ import.NoMemory) ⊎ IsFull fault
+  put_ends import.NoMemory ends = inl refl
+  put_ends import.DiskFault ends = absurd (never _ ends.4 refl)
+  put_ends (import.LogFull file need room) ends = inr tt
+  put_ends (import.TableFull rows) ends = inr tt
   put_ends (import.BadBlock fault offset) ends = absurd (bad_block ends.1 ends.2 fault ends.3 ends.5)
   put_ends import.ReadFault ends = absurd ends
   put_ends (import.BadCar fault offset) ends = absurd ends
@@ -165,7 +155,7 @@ module _ (wants : Bool) (bytes : List ℕ) (roots : List (List ℕ)) (sections :
   car_ends (import.BadCar fault offset) read_on ends = absurd (⊎_elim
       (λ told. let differ : None ≡ Some _ = (car-one bytes roots these sections read None _ fine.car (told bytes refl)).2 in let no : ⊥ = cc (differ) in no)
       (λ start. start-none fine.car.start fine.car.rest roots fault fine.car.is_start (subst (λ l. StartFault l fault) fine.car.spelled (start.2 bytes refl)))
-      ends.1)
+      ends.2)
   car_ends import.TooLong read_on ends =
       let b = ends.4 bytes refl in
       absurd (let no : ⊥ = omega (arith, ends.3, b.end_is, ap length b.spelled, length-append b.front b.rest, fine.short) in no)
@@ -175,11 +165,11 @@ module _ (wants : Bool) (bytes : List ℕ) (roots : List (List ℕ)) (sections :
   car_ends (import.BadBlock fault offset) read_on ends = absurd ends
   car_ends (import.BadHead reply) read_on ends = absurd ends
 
-  head_ends : (fault : ImportFault) (reply : HeadReply) → wants ≡ true → left ≡ [] → IsWhole (Some bytes) these read → IsLastHead these last reply → EndsHead reply fault → fault ≡ import.NoMemory
+  head_ends : (fault : ImportFault) (reply : HeadReply) → wants ≡ true → left ≡ [] → IsWhole (Some bytes) these read → IsLastHead these last reply → EndsHead reply fault → (fault ≡ import.NoMemory) ⊎ IsFull fault
   head_ends fault reply wanted all whole heads ends = by reply refl ends
     where
       same : (these ≡ roots) × (read ≡ sections) × (◌≡◌ {A = Option CarRefusal} None None)
-      same = car-one bytes these roots read sections None None (whole bytes refl) fine.car
+      same = car-one bytes these roots read sections None None (whole bytes refl).1 fine.car
 
       mine : IsLastHead roots last reply
       mine = subst (λ r. IsLastHead r last reply) same.0 heads
@@ -196,13 +186,10 @@ module _ (wants : Bool) (bytes : List ℕ) (roots : List (List ℕ)) (sections :
       refused : EndsHead reply (import.BadHead reply) → ⊥
       refused is = refused_lawfully (AfterAll begun puts) roots height.0 reply height.1 there is
 
-      made : AreCalls roots sections (opened v ∷ (puts ++ last))
-      made = calls (inr (inr (reply, mine)))
-
-      by : (r : HeadReply) → r ≡ reply → EndsHead r fault → fault ≡ import.NoMemory
-      by head.NoMemory is e = e
-      by head.DiskFault is e = absurd (never _ mine made (ap (λ r. is_refused (entry (call.SetHead roots) (answer.Head r))) (sym is)))
-      by (head.LogFull file need room) is e = absurd (never _ mine made (ap (λ r. is_refused (entry (call.SetHead roots) (answer.Head r))) (sym is)))
+      by : (r : HeadReply) → r ≡ reply → EndsHead r fault → (fault ≡ import.NoMemory) ⊎ IsFull fault
+      by head.NoMemory is e = inl e
+      by head.DiskFault is e = absurd (never _ mine (ap (λ r. is_disk_fault (answer.Head r)) (sym is)))
+      by (head.LogFull file need room) is e = inr (subst IsFull (sym e) tt)
       by (head.Set n) is e = absurd e
       by head.Empty is e = absurd (refused (subst (λ r. EndsHead r (import.BadHead r)) is refl))
       by (head.TooMany n) is e = absurd (refused (subst (λ r. EndsHead r (import.BadHead r)) is refl))
@@ -212,13 +199,63 @@ module _ (wants : Bool) (bytes : List ℕ) (roots : List (List ℕ)) (sections :
       by (head.HeightDiffers i) is e = absurd (refused (subst (λ r. EndsHead r (import.BadHead r)) is refl))
       by (head.ParentsDiffer i) is e = absurd (refused (subst (λ r. EndsHead r (import.BadHead r)) is refl))
 
-pub complete : (Did : List Entry → Type 0) (wants : Bool) (bytes : List ℕ) (roots : List (List ℕ)) (sections : List Section) (s : State) (end : ℕ) (result : Result Imported ImportFault) (i : IsImport Did wants (Some bytes) result)
-    → IsImportable wants bytes roots sections s end → AreSmall s.kept → Legal s (opened i.view ∷ (i.puts ++ i.last)) → AreRooms s end (opened i.view ∷ (i.puts ++ i.last)) → faults_in (opened i.view ∷ (i.puts ++ i.last)) ≡ 0 → (result ≡ Err import.ReadFault → ⊥)
-    → IsOk result ⊎ (result ≡ Err import.NoMemory)
-complete Did wants bytes roots sections s end (Ok done) i fine small legal rooms none read_on = inl refl
-complete Did wants bytes roots sections s end (Err fault) i fine small legal rooms none read_on = inr (ap Err (⊎_elim
-    (λ ends. put_ends wants bytes roots sections s end fine small i.view i.roots i.sections i.left i.puts i.last i.are_puts i.read legal rooms none fault ends)
-    (⊎_elim
-    (λ reading. car_ends wants bytes roots sections s end fine small i.view i.roots i.sections i.left i.puts i.last i.are_puts i.read legal rooms none fault (λ is. read_on (ap Err is)) reading.1)
-    (λ h. head_ends wants bytes roots sections s end fine small i.view i.roots i.sections i.left i.puts i.last i.are_puts i.read legal rooms none fault h.3 h.0 h.1 h.2 h.4 h.5))
-    i.reason))
+pub complete : (Did : List Entry → Type 0) (wants : Bool) (bytes : List ℕ) (roots : List (List ℕ)) (sections : List Section) (s : State) (result : Result Imported ImportFault) (i : IsImport Did wants (Some bytes) result)
+    → IsImportable wants bytes roots sections s → AreSmall s.kept → Legal s (entries_of i) → faults_in (entries_of i) ≡ 0 → (result ≡ Err import.ReadFault → ⊥)
+    → IsOk result ⊎ ((fault : ImportFault) × (result ≡ Err fault) × ((fault ≡ import.NoMemory) ⊎ IsFull fault))
+complete Did wants bytes roots sections s (Ok done) i fine small legal none read_on = inl refl
+complete Did wants bytes roots sections s (Err fault) i fine small legal none read_on = inr (
+  fault,
+  refl,
+  ⊎_elim
+      (λ ends. put_ends wants bytes roots sections s fine small i.view i.roots i.sections i.left i.puts i.last i.are_puts i.read legal none fault ends)
+      (⊎_elim
+      (λ reading. inl (car_ends wants bytes roots sections s fine small i.view i.roots i.sections i.left i.puts i.last i.are_puts i.read legal none fault (λ is. read_on (ap Err is)) reading.1))
+      (λ h. head_ends wants bytes roots sections s fine small i.view i.roots i.sections i.left i.puts i.last i.are_puts i.read legal none fault h.3 h.0 h.1 h.2 h.4 h.5))
+      i.reason,
+)
+
+-- ---- no record needs more than its room, and there are rows
+
+module _ (Did : List Entry → Type 0) (wants : Bool) (input : Option (List ℕ)) (s : State) (fault : ImportFault) (i : IsImport Did wants input (Err fault)) (legal : Legal s (entries_of i)) (place : HavePlace s (entries_of i)) (none : faults_in (entries_of i) ≡ 0) where
+  refused_none : (e : Entry) → i.last ≡ e ∷ [] → is_refused e ≡ true → ⊥
+  refused_none e is wrong =
+      true≢false (sym (any_last is_refused (opened i.view ∷ i.puts) e wrong) ∙ ap (λ l. list_any is_refused (opened i.view ∷ (i.puts ++ l))) (sym is) ∙ fulfilled s (entries_of i) legal place none)
+
+  by_put : (f : ImportFault) → IsFull f → EndsPuts i.view i.puts i.left i.last f → ⊥
+  by_put (import.LogFull file need room) is ends = refused_none _ ends.4 refl
+  by_put (import.TableFull rows) is ends = refused_none _ ends.4 refl
+  by_put import.NoMemory is ends = is
+  by_put import.ReadFault is ends = is
+  by_put import.DiskFault is ends = is
+  by_put (import.BadCar f offset) is ends = is
+  by_put (import.BadBlock f offset) is ends = is
+  by_put import.TooLong is ends = is
+  by_put (import.BadHead reply) is ends = is
+
+  by_reading : (f : ImportFault) → IsFull f → EndsReading input i.roots i.sections i.left f → ⊥
+  by_reading (import.LogFull file need room) is ends = ends
+  by_reading (import.TableFull rows) is ends = ends
+  by_reading import.NoMemory is ends = is
+  by_reading import.ReadFault is ends = is
+  by_reading import.DiskFault is ends = is
+  by_reading (import.BadCar f offset) is ends = is
+  by_reading (import.BadBlock f offset) is ends = is
+  by_reading import.TooLong is ends = is
+  by_reading (import.BadHead reply) is ends = is
+
+  by_head : (reply : HeadReply) → IsLastHead i.roots i.last reply → EndsHead reply fault → IsFull fault → ⊥
+  by_head head.NoMemory last is full = subst IsFull is full
+  by_head head.DiskFault last is full = subst IsFull is full
+  by_head (head.LogFull file need room) last is full = refused_none _ last refl
+  by_head (head.Set height) last is full = is
+  by_head head.Empty last is full = subst IsFull is full
+  by_head (head.TooMany n) last is full = subst IsFull is full
+  by_head (head.Repeated k) last is full = subst IsFull is full
+  by_head (head.Absent k) last is full = subst IsFull is full
+  by_head (head.NotHeader k) last is full = subst IsFull is full
+  by_head (head.HeightDiffers k) last is full = subst IsFull is full
+  by_head (head.ParentsDiffer k) last is full = subst IsFull is full
+
+  -- neither a log nor the table ends the import
+  pub not_full : IsFull fault → ⊥
+  not_full full = ⊎_elim (by_put fault full) (⊎_elim (λ reading. by_reading fault full reading.1) (λ h. by_head h.3 h.4 h.5 full)) i.reason

@@ -1,13 +1,12 @@
 -- How an import ends: at the header, at a section, or with all its sections read and put.
-use Rattle.std.proofs.Common.{◌≡◌, inl, inr, ⊎_elim, ℕ, Bool, true, false, List, [], ◌∷◌, ◌++◌, Option, None, Some, Ok, Err, refl, sym, ◌∙◌, subst}
+use Rattle.std.proofs.Common.{◌≡◌, inl, inr, ⊎_elim, ℕ, Bool, true, false, List, [], ◌∷◌, ◌++◌, length, Option, None, Some, Ok, Err, refl, sym, ◌∙◌, subst}
 use Rattle.std.specs.Prelude.{IsTrue}
 use Rattle.std.proofs.lemmas.List.{append-nil}
-use Rattle.ss_disk.specs.declared.disk.Disk.{Ghosts}
+use Rattle.ss_device.specs.declared.disk.Disk.{Ghosts}
 use Rattle.ss_car.specs.Car.{Section, StartFault}
 use Rattle.ss_car.specs.Bodies.{Blames}
 use Rattle.ss_car.specs.declared.fault.CarFault.{CarFault}
 use Rattle.ss_car.specs.declared.fault.CarFault.TheVariants as car
-use Rattle.ss_records.specs.declared.record.Record.{Record}
 use Rattle.ss_model.specs.State.{State}
 use Rattle.ss_model.specs.declared.call.Call.TheVariants as call
 use Rattle.ss_model.specs.declared.call.Answer.TheVariants as answer
@@ -15,7 +14,7 @@ use Rattle.ss_model.specs.declared.call.HeadReply.{HeadReply}
 use Rattle.ss_model.specs.declared.call.HeadReply.TheVariants as head
 use Rattle.ss_core.specs.declared.split_core.SplitCore.{SplitCore}
 use Rattle.ss_core.specs.Calls.{Steps, Makes}
-use Rattle.ss_core.specs.StandsFor.{StandsFor}
+use Rattle.ss_core.specs.StandsFor.{Doubt, StandsFor}
 use Rattle.ss_history.specs.Story.{Story}
 use Rattle.ss_history.proofs.Stories.{story_more}
 use Rattle.ss_import.specs.declared.fault.ImportFault.{ImportFault}
@@ -27,19 +26,19 @@ use Rattle.ss_import.proofs.Putting.{opened}
 
 -- all bytes were read
 all_read : (input : Option (List ℕ)) (roots : List (List ℕ)) (sections : List Section) → IsWhole input roots sections → AreRead input roots sections
-all_read input roots sections whole = inr (λ bytes is. (_, record { front = bytes; rest = []; spelled = sym (append-nil bytes); is_car = whole bytes is; end_is = refl }))
+all_read input roots sections whole = inr (λ bytes is. (length bytes, (whole bytes is).0, record { front = bytes; rest = []; spelled = sym (append-nil bytes); is_car = (whole bytes is).1; end_is = refl }))
 
 -- why the header ends an import
 header_ends : (input : Option (List ℕ)) (f : CarFault) (offset : ℕ) → offset ≡ 0 → Blames StartFault input f → EndsReading input [] [] [] (fault_at f offset)
 header_ends input car.ReadFault offset at blames = tt
 header_ends input car.NoMemory offset at blames = tt
-header_ends input car.Truncated offset at blames = (refl, inr (refl, at, blames))
-header_ends input car.BadHeader offset at blames = (refl, inr (refl, at, blames))
-header_ends input (car.BadVersion version) offset at blames = (refl, inr (refl, at, blames))
-header_ends input car.ZeroSection offset at blames = (refl, inr (refl, at, blames))
-header_ends input car.TooLarge offset at blames = (refl, inr (refl, at, blames))
-header_ends input car.BadCid offset at blames = (refl, inr (refl, at, blames))
-header_ends input car.BadLength offset at blames = (refl, inr (refl, at, blames))
+header_ends input car.Truncated offset at blames = (refl, refl, inr (refl, at, blames))
+header_ends input car.BadHeader offset at blames = (refl, refl, inr (refl, at, blames))
+header_ends input (car.BadVersion version) offset at blames = (refl, refl, inr (refl, at, blames))
+header_ends input car.ZeroSection offset at blames = (refl, refl, inr (refl, at, blames))
+header_ends input car.TooLarge offset at blames = (refl, refl, inr (refl, at, blames))
+header_ends input car.BadCid offset at blames = (refl, refl, inr (refl, at, blames))
+header_ends input car.BadLength offset at blames = (refl, refl, inr (refl, at, blames))
 
 module _ {D : Type 0} {disk : Ghosts D} (wants : Bool) (input : Option (List ℕ)) (was : D) (imp : Importer D disk) where
   -- the header is refused
@@ -103,7 +102,7 @@ module _ {D : Type 0} {disk : Ghosts D} (input : Option (List ℕ)) (was : D) (i
   }
 
   module _ (wants : Bool) (is : wants ≡ true) (core : SplitCore D disk) (reply : HeadReply)
-      (told : IsTrue disk.told → (s : State) (doubt : Option Record) → StandsFor imp.core s doubt → Steps imp.core core s doubt (call.SetHead roots) (answer.Head reply)) (made : Makes imp.core core (call.SetHead roots) (answer.Head reply)) where
+      (told : IsTrue disk.told → (s : State) (doubt : Doubt) → StandsFor imp.core s doubt → Steps imp.core core s doubt (call.SetHead roots) (answer.Head reply)) (made : Makes imp.core core (call.SetHead roots) (answer.Head reply)) where
     story : Story was core (opened imp.view ∷ (read.putting.puts ++ entry (call.SetHead roots) (answer.Head reply) ∷ []))
     story = story_more was imp.core core (opened imp.view ∷ read.putting.puts) (entry (call.SetHead roots) (answer.Head reply)) read.putting.story told made
 

@@ -9,8 +9,8 @@ use Rattle.ss_model.specs.Lawful.{IsFirstFault, IsSound}
 use Rattle.ss_model.specs.declared.TheConstants.{PUT_BYTES}
 use Rattle.ss_model.specs.declared.call.PutReply.{PutReply}
 use Rattle.ss_model.specs.declared.call.PutReply.TheVariants as put
-use Rattle.ss_store.specs.Places.{CidMap}
-use Rattle.ss_store.specs.declared.place.Place.{Place}
+use Rattle.ss_device.specs.declared.disk.Disk.{Ghosts}
+use Rattle.ss_core.specs.declared.split_core.SplitCore.{SplitCore}
 use Rattle.ss_core.specs.Replies.{held_bytes, held_put_bytes}
 use Rattle.ss_import.specs.declared.fault.BlockFault.{BlockFault}
 use Rattle.ss_import.specs.declared.fault.BlockFault.TheVariants as block
@@ -23,9 +23,9 @@ pub together_front : (pairs : List (List ℕ × List ℕ)) (i : ℕ) → GoToget
 together_front pairs i (inl one) = inl (omega (arith, one, length-take i pairs))
 together_front pairs i (inr group) = inr (omega (arith, group.0, length-take i pairs), omega (arith, group.1, sum_by-take-le pair_length pairs i))
 
-pub fits_front : (places : CidMap Place) (pairs : List (List ℕ × List ℕ)) (i : ℕ) → (length pairs ≤ 1) ⊎ (held_put_bytes places pairs ≤ PUT_BYTES) → (length (take i pairs) ≤ 1) ⊎ (held_put_bytes places (take i pairs) ≤ PUT_BYTES)
-fits_front places pairs i (inl one) = inl (omega (arith, one, length-take i pairs))
-fits_front places pairs i (inr small) = inr (omega (arith, small, sum_by-take-le (held_bytes places) pairs i))
+pub fits_front : {D : Type 0} {disk : Ghosts D} (core : SplitCore D disk) (pairs : List (List ℕ × List ℕ)) (i : ℕ) → (length pairs ≤ 1) ⊎ (held_put_bytes core pairs ≤ PUT_BYTES) → (length (take i pairs) ≤ 1) ⊎ (held_put_bytes core (take i pairs) ≤ PUT_BYTES)
+fits_front core pairs i (inl one) = inl (omega (arith, one, length-take i pairs))
+fits_front core pairs i (inr small) = inr (omega (arith, small, sum_by-take-le (held_bytes core) pairs i))
 
 -- the section at a place: what stands before it, and its offset
 pub front_of : (left : List Section) (i : ℕ) (s : Section) → slice_get left i ≡ Some s → (more : List Section) × (left ≡ take i left ++ s ∷ more)
@@ -50,11 +50,11 @@ section_at (x ∷ left) zero within = (x, refl)
 section_at (x ∷ left) (suc i) within = section_at left i (omega (arith, within))
 
 -- what is blamed does not change by a put of what stands before
-pub still_blamed : (v : ℕ) (puts later : List Entry) (s : Section) (places : CidMap Place) (pairs : List (List ℕ × List ℕ)) (i : ℕ) (fault : BlockFault) → (i ≡ 0 → ⊥) → IsDueBlock places pairs i fault → IsBlockFault v puts s fault → IsBlockFault v later s fault
-still_blamed v puts later s places pairs i block.TooLarge some due blames = absurd (some due.0)
-still_blamed v puts later s places pairs i block.UnknownHash some due blames = blames
-still_blamed v puts later s places pairs i block.Mismatch some due blames = blames
-still_blamed v puts later s places pairs i block.Malformed some due blames = blames
+pub still_blamed : (v : ℕ) (puts later : List Entry) (s : Section) {D : Type 0} {disk : Ghosts D} (core : SplitCore D disk) (pairs : List (List ℕ × List ℕ)) (i : ℕ) (fault : BlockFault) → (i ≡ 0 → ⊥) → IsDueBlock core pairs i fault → IsBlockFault v puts s fault → IsBlockFault v later s fault
+still_blamed v puts later s core pairs i block.TooLarge some due blames = absurd (some due.0)
+still_blamed v puts later s core pairs i block.UnknownHash some due blames = blames
+still_blamed v puts later s core pairs i block.Mismatch some due blames = blames
+still_blamed v puts later s core pairs i block.Malformed some due blames = blames
 
 get_take : (pairs : List (List ℕ × List ℕ)) (i k : ℕ) (p : List ℕ × List ℕ) → slice_get (take i pairs) k ≡ Some p → slice_get pairs k ≡ Some p
 get_take [] zero k p here = here
@@ -64,14 +64,14 @@ get_take (x ∷ pairs) (suc i) zero p here = here
 get_take (x ∷ pairs) (suc i) (suc k) p here = get_take pairs i k p here
 
 -- a block before the first that is not stored has no fault
-module _ (places : CidMap Place) (pairs : List (List ℕ × List ℕ)) (i : ℕ) (fault : BlockFault) (some : i ≡ 0 → ⊥) (within : i < length pairs) (due : IsDueBlock places pairs i fault) (fits : (length pairs ≤ 1) ⊎ (held_put_bytes places pairs ≤ PUT_BYTES)) where
+module _ {D : Type 0} {disk : Ghosts D} (core : SplitCore D disk) (pairs : List (List ℕ × List ℕ)) (i : ℕ) (fault : BlockFault) (some : i ≡ 0 → ⊥) (within : i < length pairs) (due : IsDueBlock core pairs i fault) (fits : (length pairs ≤ 1) ⊎ (held_put_bytes core pairs ≤ PUT_BYTES)) where
   first_at : (reply : PutReply) (f : IsFirstFault pairs reply) → i ≡ f.at → (k : ℕ) (q : List ℕ × List ℕ) → k < i → slice_get pairs k ≡ Some q → IsSound q
   first_at reply f is k q before here = f.before k q (omega (arith, is, before)) here
 
   sound_before : (k : ℕ) (q : List ℕ × List ℕ) → k < i → slice_get pairs k ≡ Some q → IsSound q
   sound_before = by fault due
     where
-      by : (b : BlockFault) → IsDueBlock places pairs i b → (k : ℕ) (q : List ℕ × List ℕ) → k < i → slice_get pairs k ≡ Some q → IsSound q
+      by : (b : BlockFault) → IsDueBlock core pairs i b → (k : ℕ) (q : List ℕ × List ℕ) → k < i → slice_get pairs k ≡ Some q → IsSound q
       by block.TooLarge d = absurd (some d.0)
       by block.UnknownHash d = first_at (put.UnknownHash i) d d.fault.0
       by block.Mismatch d = first_at (put.Mismatch i) d d.fault.0
@@ -80,8 +80,8 @@ module _ (places : CidMap Place) (pairs : List (List ℕ × List ℕ)) (i : ℕ)
   sound_in : (reply : PutReply) (f : IsFirstFault (take i pairs) reply) → IsSound f.pair
   sound_in reply f = sound_before f.at f.pair (omega (arith, slice_get_within (take i pairs) f.at f.pair f.stands, length-take i pairs)) (get_take pairs i f.at f.pair f.stands)
 
-  pub none_before : (j : ℕ) (other : BlockFault) → IsDueBlock places (take i pairs) j other → ⊥
-  none_before j block.TooLarge d = ⊎_elim (λ one. omega (arith, one, within, nonzero i some)) (λ small. omega (arith, small, d.1, sum_by-take-le (held_bytes places) pairs i)) fits
+  pub none_before : (j : ℕ) (other : BlockFault) → IsDueBlock core (take i pairs) j other → ⊥
+  none_before j block.TooLarge d = ⊎_elim (λ one. omega (arith, one, within, nonzero i some)) (λ small. omega (arith, small, d.1, sum_by-take-le (held_bytes core) pairs i)) fits
     where
       nonzero : (n : ℕ) → (n ≡ 0 → ⊥) → 1 ≤ n
       nonzero zero not = absurd (not refl)

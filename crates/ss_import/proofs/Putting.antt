@@ -2,9 +2,8 @@
 use Rattle.std.proofs.Common.{◌≡◌, inl, inr, ℕ, min, ◌+◌, ◌-◌, ◌^◌, false, List, [], ◌∷◌, ◌++◌, map, Option, Err, refl, sym, ap, ◌∙◌, subst, arith, true≢false}
 use Rattle.std.specs.Prelude.{IsTrue, if◌then◌else◌}
 use Rattle.std.proofs.lemmas.List.{append-nil}
-use Rattle.ss_disk.specs.declared.disk.Disk.{Ghosts}
+use Rattle.ss_device.specs.declared.disk.Disk.{Ghosts}
 use Rattle.ss_car.specs.Car.{Section}
-use Rattle.ss_records.specs.declared.record.Record.{Record}
 use Rattle.ss_model.specs.State.{State}
 use Rattle.ss_model.specs.declared.call.Call.TheVariants as call
 use Rattle.ss_model.specs.declared.call.Answer.TheVariants as answer
@@ -14,7 +13,7 @@ use Rattle.ss_model.specs.declared.call.PutReply.TheVariants as put
 use Rattle.ss_model.specs.declared.call.Entry.{Entry}
 use Rattle.ss_core.specs.declared.split_core.SplitCore.{SplitCore}
 use Rattle.ss_core.specs.Calls.{Steps, Makes}
-use Rattle.ss_core.specs.StandsFor.{StandsFor}
+use Rattle.ss_core.specs.StandsFor.{Doubt, StandsFor}
 use Rattle.ss_history.specs.Story.{Story}
 use Rattle.ss_history.proofs.Stories.{story_more}
 use Rattle.ss_import.specs.declared.fault.BlockFault.{BlockFault}
@@ -53,7 +52,7 @@ none_new put.DiskFault kept = refl
 module _ {D : Type 0} {disk : Ghosts D} (was : D) where
   -- one put more, of a parcel that holds these sections
   pub story_put : (old new : SplitCore D disk) (v : ℕ) (puts : List Entry) (group : List Section) (parcel : List (List ℕ × List ℕ)) (reply : PutReply) → parcel ≡ map pair_of group
-      → (IsTrue disk.told → (s : State) (doubt : Option Record) → StandsFor old s doubt → Steps old new s doubt (call.Put v parcel) (answer.Put reply)) → Makes old new (call.Put v parcel) (answer.Put reply)
+      → (IsTrue disk.told → (s : State) (doubt : Doubt) → StandsFor old s doubt → Steps old new s doubt (call.Put v parcel) (answer.Put reply)) → Makes old new (call.Put v parcel) (answer.Put reply)
       → Story was old (opened v ∷ puts) → Story was new (opened v ∷ (puts ++ put_of v group reply ∷ []))
   story_put old new v puts group parcel reply same told made story =
       subst (λ pairs. Story was new (opened v ∷ (puts ++ entry (call.Put v pairs) (answer.Put reply) ∷ []))) same

@@ -3,7 +3,7 @@ use Rattle.std.proofs.Common.{◌≡◌, ◌⊎◌, inl, inr, ⊎_elim, ℕ, ◌
 use Rattle.std.specs.Prelude.{slice_get}
 use Rattle.std.specs.FinSet as finite_set
 use Rattle.std.proofs.lemmas.Option.{slice_get_within, get_or_from_slice_get}
-use Rattle.ss_disk.specs.declared.disk.Disk.{Ghosts}
+use Rattle.ss_device.specs.declared.disk.Disk.{Ghosts}
 use Rattle.ss_car.specs.Car.{Section}
 use Rattle.ss_model.specs.Lawful.{IsSmall, IsFirstFault, IsPairFault}
 use Rattle.ss_model.specs.declared.TheConstants.{PUT_BLOCKS, PUT_BYTES}
@@ -63,7 +63,7 @@ group_reply old new v pairs (put.Stored n) opened together small due = tt
 -- a block that is refused: the store is as it was, and this is why
 pub record IsRefused {D : Type 0} {disk : Ghosts D} (old new : SplitCore D disk) (v : ℕ) (pairs : List (List ℕ × List ℕ)) (reply : PutReply) (i : ℕ) (fault : BlockFault) : Type 0 where
   pub same : new ≡ old
-  pub due : IsDueBlock old.hot.places pairs i fault
+  pub due : IsDueBlock old pairs i fault
   pub settled : IsSettled (answer.Put reply)
   pub kept : is_stored (answer.Put reply) ≡ false
   pub within : 1 ≤ length pairs → i < length pairs
@@ -82,7 +82,7 @@ module _ {D : Type 0} {disk : Ghosts D} (old new : SplitCore D disk) (v : ℕ) (
   of_pair : (reply : PutReply) (i : ℕ) (f : IsFirstFault pairs reply) → i ≡ f.at → i < length pairs
   of_pair reply i f is = let within = slice_get_within pairs f.at f.pair f.stands in omega (arith, within, is)
 
-  pub refused_block : (reply : PutReply) (i : ℕ) (fault : BlockFault) → outcome_of reply ≡ Err (group.Block i fault) → IsGroupReply reply → (length pairs ≤ 1) ⊎ (held_put_bytes old.hot.places pairs ≤ PUT_BYTES) → IsDueTo old new v pairs reply → IsRefused old new v pairs reply i fault
+  pub refused_block : (reply : PutReply) (i : ℕ) (fault : BlockFault) → outcome_of reply ≡ Err (group.Block i fault) → IsGroupReply reply → (length pairs ≤ 1) ⊎ (held_put_bytes old pairs ≤ PUT_BYTES) → IsDueTo old new v pairs reply → IsRefused old new v pairs reply i fault
   refused_block (put.UnknownHash n) i fault is able fits due =
       let same : n ≡ i = cc (is) in
       let kind : block.UnknownHash ≡ fault = cc (is) in

@@ -4,6 +4,7 @@ use Rattle.std.specs.Ordering.{nat_cmp, eq_by_cmp}
 use Rattle.std.specs.Cmp.Lexicographic.{slice_cmp, nat_list_cmp_total}
 use Rattle.std.specs.FinMap as finite_map
 use Rattle.std.specs.FinMap.{get-empty, get-remove}
+use Rattle.ss_device.specs.Disk.{Files}
 use Rattle.ss_records.specs.declared.record.Record.{Record}
 use Rattle.ss_records.specs.declared.record.Record.TheVariants as record_kind
 use Rattle.ss_records.specs.Record.{Fits, BlockFits}
@@ -44,6 +45,6 @@ records_small : (n : ℕ) (kept : Kept) (records : List Record) → AreInPlace n
 records_small n kept [] in_place small = small
 records_small n kept (r ∷ records) in_place small = records_small (suc n) (hot_after kept r) records in_place.1 (record_small kept r in_place.0.fits small)
 
-pub state_small : (file : List ℕ) (end : ℕ) (s : State) → HasState file end s → AreSmall s.kept
-state_small file end s has =
+pub state_small : (files : Files) (s : State) → HasState files s → AreSmall s.kept
+state_small files s has =
     subst AreSmall (sym has.state.kept) (records_small 0 finite_map.empty has.records has.half.in_place (λ c block found. absurd (let no : ⊥ = cc (sym (get-empty (slice_cmp nat_cmp) c) ∙ found) in no)))

@@ -10,7 +10,7 @@ use Rattle.ss_car.specs.declared.fault.CarFault.TheVariants as car
 use Rattle.ss_car.specs.declared.fault.CarRefusal.{CarRefusal}
 use Rattle.ss_car.specs.declared.reader.CarReader.{CarReader}
 use Rattle.ss_cid.specs.Varint.{varint, groups_of}
-use Rattle.ss_disk.specs.declared.disk.Disk.{Ghosts}
+use Rattle.ss_device.specs.declared.disk.Disk.{Ghosts}
 use Rattle.ss_io.specs.declared.source.Source.{Ghosts as Source}
 use Rattle.ss_import.specs.declared.fault.ImportFault.{ImportFault}
 use Rattle.ss_import.specs.declared.fault.ImportFault.TheVariants as import
@@ -61,6 +61,7 @@ begun source input was imp reader takes holds none putting = record {
   putting = putting;
   holds = holds;
   taken = taken_start input (input_left source reader) (roots_of reader) (taken_of reader) takes;
+  short = start_short input (input_left source reader) (roots_of reader) (taken_of reader) takes;
   count = none;
 }
 
@@ -79,37 +80,38 @@ module _ {D : Type 0} {disk : Ghosts D} (input : Option (List ℕ)) (was : D) (i
       one : (e : ImportFault) → fault ≡ e → (left : List Section) → Putting was imp sections left → EndsReading input roots sections left e → Ended input was imp fault
       one e is left putting ends = subst (λ e. Ended input was imp e) (sym is) (car_ended e left putting ends)
 
-      bad : (f : CarFault) → ForSome now (λ bytes. NextFault bytes f) → ((fault ≡ import.BadCar f offset) × Putting was imp sections []) ⊎ PutsEnded was imp sections fault → Ended input was imp fault
-      bad f blames (inr ends) = puts_ended fault ends
-      bad f blames (inl (is, putting)) = one (import.BadCar f offset) is [] putting (refl, inl (subst (λ n. ForSome input (λ bytes. IsCar bytes roots sections (Some (record { fault = f; offset = n })))) (sym at) (refused input now roots sections taken f took blames)))
+      bad : (f : CarFault) → fault_at f offset ≡ import.BadCar f offset → ForSome now (λ bytes. NextFault bytes f) → ((fault ≡ import.BadCar f offset) × Putting was imp sections []) ⊎ PutsEnded was imp sections fault → Ended input was imp fault
+      bad f own blames (inr ends) = puts_ended fault ends
+      bad f own blames (inl (is, putting)) = one (import.BadCar f offset) is [] putting (own, refl, inl (subst (λ n. ForSome input (λ bytes. IsCar bytes roots sections (Some (record { fault = f; offset = n })))) (sym at) (refused input now roots sections taken f took blames)))
 
       by : (f : CarFault) → Blames NextFault now f → Refuses was imp sections (fault_at f offset) fault → Ended input was imp fault
       by car.ReadFault b ends = one import.ReadFault ends.0 ends.1 ends.2 tt
       by car.NoMemory b ends = one import.NoMemory ends.0 ends.1 ends.2 tt
-      by car.Truncated b ends = bad car.Truncated b ends
-      by car.BadHeader b ends = bad car.BadHeader b ends
-      by (car.BadVersion version) b ends = bad (car.BadVersion version) b ends
-      by car.ZeroSection b ends = bad car.ZeroSection b ends
-      by car.TooLarge b ends = bad car.TooLarge b ends
-      by car.BadCid b ends = bad car.BadCid b ends
-      by car.BadLength b ends = bad car.BadLength b ends
+      by car.Truncated b ends = bad car.Truncated refl b ends
+      by car.BadHeader b ends = bad car.BadHeader refl b ends
+      by (car.BadVersion version) b ends = bad (car.BadVersion version) refl b ends
+      by car.ZeroSection b ends = bad car.ZeroSection refl b ends
+      by car.TooLarge b ends = bad car.TooLarge refl b ends
+      by car.BadCid b ends = bad car.BadCid refl b ends
+      by car.BadLength b ends = bad car.BadLength refl b ends
 
 module _ {S D : Type 0} (source : Source S) {disk : Ghosts D} (input : Option (List ℕ)) (was : D) (before now : Importer D disk) (old new : CarReader S) (r : Reading source input was before old) where
   are_read : AreRead input (roots_of old) r.sections
-  are_read = inr (λ bytes is. (taken_of old, (r.taken bytes is).0))
+  are_read = inr (λ bytes is. (taken_of old, r.short, (r.taken bytes is).0))
 
   taken_section : (cid block : List ℕ) → TakesSection (input_left source old) (input_left source new) cid block → taken_of new ≡ taken_of old + length (framed (cid ++ block)) → HasTaken input (input_left source new) (roots_of old) (r.sections ++ record { offset = taken_of old; cid = cid; block = block } ∷ []) (taken_of new)
   taken_section cid block takes count = taken_more input (input_left source old) (input_left source new) (roots_of old) r.sections (taken_of old) (taken_of new) cid block r.taken takes count
 
   -- a section was taken
-  pub goes_on : (cid block : List ℕ) → TakesSection (input_left source old) (input_left source new) cid block → taken_of new ≡ taken_of old + length (framed (cid ++ block)) → roots_of new ≡ roots_of old → now.sections ≡ before.sections + 1
+  pub goes_on : (cid block : List ℕ) → TakesSection (input_left source old) (input_left source new) cid block → taken_of new ≡ taken_of old + length (framed (cid ++ block)) → roots_of new ≡ roots_of old → now.sections ≡ before.sections + 1 → taken_of new ≤ 2 ^ 40
       → (left : List Section) × Putting was now (r.sections ++ record { offset = taken_of old; cid = cid; block = block } ∷ []) left × Holds now.group left → Reading source input was now new
-  goes_on cid block takes count roots more took = record {
+  goes_on cid block takes count roots more short took = record {
     sections = r.sections ++ record { offset = taken_of old; cid = cid; block = block } ∷ [];
     left = took.0;
     putting = took.1;
     holds = took.2;
     taken = subst (λ l. HasTaken input (input_left source new) l (r.sections ++ record { offset = taken_of old; cid = cid; block = block } ∷ []) (taken_of new)) (sym roots) (taken_section cid block takes count);
+    short = short;
     count = more ∙ ap (λ n. n + 1) r.count ∙ sym (length-append r.sections (record { offset = taken_of old; cid = cid; block = block } ∷ []));
   }
 
@@ -138,7 +140,7 @@ module _ {S D : Type 0} (source : Source S) {disk : Ghosts D} (input : Option (L
   was_read ended roots same putting = record {
     sections = r.sections;
     putting = putting;
-    whole = subst (λ l. IsWhole input l r.sections) (sym roots) (whole input (input_left source old) (roots_of old) r.sections (taken_of old) r.taken ended);
+    whole = subst (λ l. IsWhole input l r.sections) (sym roots) (whole input (input_left source old) (roots_of old) r.sections (taken_of old) r.taken ended r.short);
     count = same ∙ r.count;
   }
 

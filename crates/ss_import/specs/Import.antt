@@ -5,10 +5,9 @@
 use Rattle.std.specs.{Prelude.{◌≡◌, ◌⊎◌, ℕ, ◌+◌, ◌-◌, ◌^◌, ◌<◌, ◌≤◌, min, Bool, true, false, List, [], ◌∷◌, ◌++◌, map, length, sum_by, Option, None, Some, if◌then◌else◌, Result, Ok, Err, MatchResult}, Option.ForSome}
 use Rattle.ss_car.specs.{Car.{Section, IsCar, StartFault}, declared.fault.CarFault.CarFault, declared.fault.CarRefusal.CarRefusal}
 use Rattle.ss_cbor.specs.declared.fault.CborKind.{CborKind}
-use Rattle.ss_disk.specs.Disk.{Rose}
-use Rattle.ss_model.specs.{Lawful.{IsPairFault, AreSound, IsSmall, with_blocks}, declared.call.Call.Call, declared.call.Answer.Answer, declared.call.ViewReply.ViewReply, declared.call.PutReply.PutReply, declared.call.HeadReply.HeadReply, declared.call.Entry.Entry, Head.IsHead, Lawful.Legal, State.{State, Kept}}
+use Rattle.ss_device.specs.Disk.{Rose}
+use Rattle.ss_model.specs.{Lawful.{IsPairFault, AreSound, IsSmall, with_blocks}, declared.call.Call.Call, declared.call.Answer.Answer, declared.call.ViewReply.ViewReply, declared.call.PutReply.PutReply, declared.call.HeadReply.HeadReply, declared.call.Entry.Entry, Head.IsHead, State.{State, Kept}}
 use Rattle.ss_import.specs.{declared.fault.BlockFault.BlockFault, declared.fault.ImportFault.ImportFault, declared.importer.Imported.Imported}
-use Rattle.ss_history.specs.Story.{HavePlace}
 use Rattle.std.specs.FinMap as finite_map
 
 -- the number of a block's fault, which the program prints; it is this project's own
@@ -91,13 +90,13 @@ pub record BeginsWith (bytes : List ℕ) (roots : List (List ℕ)) (sections : L
   pub is_car : IsCar front roots sections None
   pub end_is : end ≡ length front
 
--- these sections were read, where the input exposes its bytes: none, or those behind the header
+-- these sections were read, where the input exposes its bytes: none, or those behind the header, which end at byte 2^40 or before
 abbrev pub AreRead : Option (List ℕ) → List (List ℕ) → List Section → Type 0
-AreRead input roots sections = (sections ≡ []) ⊎ ForSome input (λ bytes. (end : ℕ) × BeginsWith bytes roots sections end)
+AreRead input roots sections = (sections ≡ []) ⊎ ForSome input (λ bytes. (end : ℕ) × (end ≤ 2 ^ 40) × BeginsWith bytes roots sections end)
 
--- the input is a CAR of these roots and sections
+-- the input is a CAR of these roots and sections, no longer than it may be
 abbrev pub IsWhole : Option (List ℕ) → List (List ℕ) → List Section → Type 0
-IsWhole input roots sections = ForSome input (λ bytes. IsCar bytes roots sections None)
+IsWhole input roots sections = ForSome input (λ bytes. (length bytes ≤ 2 ^ 40) × IsCar bytes roots sections None)
 
 -- ---- why an import ends
 
@@ -117,10 +116,10 @@ EndsPuts v puts left last (ImportFault.TableFull rows) = IsLastPut v left last (
 EndsPuts v puts left last (ImportFault.BadBlock fault offset) = (last ≡ []) × (s : Section) × (more : List Section) × (left ≡ s ∷ more) × (offset ≡ s.offset) × IsBlockFault v puts s fault
 EndsPuts v puts left last _ = ⊥
 
--- the CAR ends the import, once all sections before its fault were stored
+-- the CAR ends the import by a fault of its own, once all sections before it were stored
 abbrev pub EndsReading : Option (List ℕ) → List (List ℕ) → List Section → List Section → ImportFault → Type 0
 EndsReading input roots sections left (ImportFault.BadCar fault offset) =
-    (left ≡ []) × (ForSome input (λ bytes. IsCar bytes roots sections (Some (record { fault = fault; offset = offset })))
+    (fault_at fault offset ≡ ImportFault.BadCar fault offset) × (left ≡ []) × (ForSome input (λ bytes. IsCar bytes roots sections (Some (record { fault = fault; offset = offset })))
     ⊎ ((sections ≡ []) × (offset ≡ 0) × ForSome input (λ bytes. StartFault bytes fault)))
 EndsReading input roots sections left ImportFault.TooLong =
     (left ≡ []) × (s : Section) × (end : ℕ) × (2 ^ 40 < end) × ForSome input (λ bytes. BeginsWith bytes roots (sections ++ s ∷ []) end)
@@ -159,6 +158,10 @@ pub record IsImport (Did : List Entry → Type 0) (wants : Bool) (input : Option
   pub are_puts : ArePuts view sections puts left
   pub reason : HasReason wants input roots sections left view puts last result
 
+-- all its entries
+abbrev pub entries_of : {Did : List Entry → Type 0} {wants : Bool} {input : Option (List ℕ)} {result : Result Imported ImportFault} → IsImport Did wants input result → List Entry
+entries_of i = entry Call.OpenView (Answer.View (ViewReply.Opened i.view)) ∷ (i.puts ++ i.last)
+
 -- the source's count of faults rose where it failed, and stayed for every other fault
 abbrev pub FaultCounts : ℕ → ℕ → ImportFault → Type 0
 FaultCounts before now ImportFault.ReadFault = Rose before now
@@ -168,21 +171,22 @@ FaultCounts before now _ = now ≡ before
 abbrev pub CountsSource : {X : Type 0} → ℕ → ℕ → Result X ImportFault → Type 0
 CountsSource before now result = MatchResult result (λ _. now ≡ before) (FaultCounts before now)
 
--- the calls of an import of these sections, up to some of them
-pub record AreCalls (roots : List (List ℕ)) (sections : List Section) (h : List Entry) : Type 0 where
-  pub view : ℕ
-  pub puts : List Entry
-  pub left : List Section
-  pub last : List Entry
-  pub are : h ≡ entry Call.OpenView (Answer.View (ViewReply.Opened view)) ∷ (puts ++ last)
-  pub are_puts : ArePuts view sections puts left
-  pub ends : (last ≡ []) ⊎ (((reply : PutReply) × IsLastPut view left last reply) ⊎ ((reply : HeadReply) × IsLastHead roots last reply))
-
 -- Nothing of a CAR and of a state stands in the way of an import: the CAR is whole and no longer than it may be, its blocks may be
--- stored, its roots are a tipset then, and each legal history of its calls has a row for each block and room for each record.
-pub record IsImportable (wants : Bool) (bytes : List ℕ) (roots : List (List ℕ)) (sections : List Section) (s : State) (end : ℕ) : Type 0 where
+-- stored, and its roots are a tipset then.
+pub record IsImportable (wants : Bool) (bytes : List ℕ) (roots : List (List ℕ)) (sections : List Section) (s : State) : Type 0 where
   pub car : IsCar bytes roots sections None
   pub short : length bytes ≤ 2 ^ 40
   pub sound : AreSound (map pair_of sections)
   pub head : wants ≡ true → (height : ℕ) × IsHead (with_blocks s.kept (map pair_of sections)) roots height
-  pub place : (h : List Entry) → AreCalls roots sections h → Legal s h → HavePlace s end h
+
+-- a log has no room, or the table no row
+abbrev pub IsFull : ImportFault → Type 0
+IsFull (ImportFault.LogFull file need room) = Unit {0}
+IsFull (ImportFault.TableFull rows) = Unit {0}
+IsFull ImportFault.NoMemory = ⊥
+IsFull ImportFault.ReadFault = ⊥
+IsFull ImportFault.DiskFault = ⊥
+IsFull (ImportFault.BadCar fault offset) = ⊥
+IsFull (ImportFault.BadBlock fault offset) = ⊥
+IsFull ImportFault.TooLong = ⊥
+IsFull (ImportFault.BadHead reply) = ⊥

@@ -2,11 +2,11 @@
 use Rattle.std.specs.{Prelude.{◌≡◌, ◌⊎◌, ℕ, ◌^◌, ◌<◌, Bool, true, false, List, [], ◌∷◌, ◌++◌, length, Option, Result, Ok, Err, MatchResult, ◌-◌, ◌≤◌, min, map, sum_by, All, None, Some}, Option.ForSome}
 use Rattle.ss_car.specs.{Car.{Section}, Bodies.{roots_of, taken_of, refusal_of, input_left, input_faults, input_place}, declared.reader.CarReader.CarReader}
 use Rattle.ss_cbor.specs.declared.fault.CborKind.{CborKind}
-use Rattle.ss_disk.specs.declared.disk.Disk.{Ghosts}
+use Rattle.ss_device.specs.declared.disk.Disk.{Ghosts}
 use Rattle.ss_io.specs.declared.source.Source.{Ghosts as Source}
 use Rattle.ss_model.specs.{Lawful.{IsFirstFault, IsSmall}, declared.TheConstants.PUT_BYTES, declared.call.Call.Call, declared.call.Answer.Answer, declared.call.PutReply.PutReply, declared.call.ViewReply.ViewReply, declared.call.Entry.Entry}
 use Rattle.ss_core.specs.Replies.{held_put_bytes}
-use Rattle.ss_store.specs.{Places.CidMap, declared.place.Place.Place}
+use Rattle.ss_core.specs.declared.split_core.SplitCore.{SplitCore}
 use Rattle.ss_history.specs.Story.{Story}
 use Rattle.ss_import.specs.{declared.fault.BlockFault.BlockFault, declared.fault.ImportFault.ImportFault, declared.importer.PutFault.PutFault, declared.importer.Importer.Importer, Import.{entry, BeginsWith, ArePuts, EndsPuts, EndsReading, IsWhole, AreRead, FaultCounts, CountsSource, pair_of, pair_length, GoTogether, new_in}, declared.group.Group.Group}
 use Rattle.std.specs.FinSet as finite_set
@@ -27,8 +27,8 @@ pub record IsReady {D : Type 0} {disk : Ghosts D} (imp : Importer D disk) : Type
   pub together : GoTogether imp.group.parcel
   pub bytes : imp.group.bytes ≡ sum_by pair_length imp.group.parcel
   pub small : All IsSmall imp.group.parcel
-  pub put_bytes : imp.group.put_bytes ≡ held_put_bytes imp.core.hot.places imp.group.parcel
-  pub fits : (length imp.group.parcel ≤ 1) ⊎ (held_put_bytes imp.core.hot.places imp.group.parcel ≤ PUT_BYTES)
+  pub put_bytes : imp.group.put_bytes ≡ held_put_bytes imp.core imp.group.parcel
+  pub fits : (length imp.group.parcel ≤ 1) ⊎ (held_put_bytes imp.core imp.group.parcel ≤ PUT_BYTES)
 
 -- over any disk the next section may come, or a fault ends the import that is none of the source
 abbrev pub Continues : {D : Type 0} {disk : Ghosts D} → Importer D disk → Result (Unit {0}) ImportFault → Type 0
@@ -86,11 +86,11 @@ IsGroupReply (PutReply.TooLarge i) = ⊥
 IsGroupReply _ = Unit {0}
 
 -- Why the block at this place is not stored, over any disk: it is the first that may not be; or the put is too big, which blames its first.
-abbrev pub IsDueBlock : CidMap Place → List (List ℕ × List ℕ) → ℕ → BlockFault → Type 0
-IsDueBlock places pairs i BlockFault.TooLarge = (i ≡ 0) × (PUT_BYTES < held_put_bytes places pairs)
-IsDueBlock places pairs i BlockFault.UnknownHash = IsFirstFault pairs (PutReply.UnknownHash i)
-IsDueBlock places pairs i BlockFault.Mismatch = IsFirstFault pairs (PutReply.Mismatch i)
-IsDueBlock places pairs i BlockFault.Malformed = (kind : CborKind) × (place : ℕ) × IsFirstFault pairs (PutReply.Malformed i kind place)
+abbrev pub IsDueBlock : {D : Type 0} {disk : Ghosts D} → SplitCore D disk → List (List ℕ × List ℕ) → ℕ → BlockFault → Type 0
+IsDueBlock core pairs i BlockFault.TooLarge = (i ≡ 0) × (PUT_BYTES < held_put_bytes core pairs)
+IsDueBlock core pairs i BlockFault.UnknownHash = IsFirstFault pairs (PutReply.UnknownHash i)
+IsDueBlock core pairs i BlockFault.Mismatch = IsFirstFault pairs (PutReply.Mismatch i)
+IsDueBlock core pairs i BlockFault.Malformed = (kind : CborKind) × (place : ℕ) × IsFirstFault pairs (PutReply.Malformed i kind place)
 
 -- a section was taken into the group, or the import ended
 abbrev pub Takes : {D : Type 0} {disk : Ghosts D} → D → Importer D disk → List Section → Section → ℕ → Result (Unit {0}) ImportFault → Type 0
@@ -110,6 +110,7 @@ pub record Reading {S D : Type 0} (source : Source S) {disk : Ghosts D} (input :
   pub putting : Putting was imp sections left
   pub holds : Holds imp.group left
   pub taken : HasTaken input (input_left source reader) (roots_of reader) sections (taken_of reader)
+  pub short : taken_of reader ≤ 2 ^ 40
   pub count : imp.sections ≡ length sections
 
 -- an import whose sections were all read and put

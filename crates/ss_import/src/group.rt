@@ -82,12 +82,12 @@ impl Group {
         Ok(parcel)
     }
 
-    /// Takes all sections away.
-    pub fn clear(&mut self, alloc: Global)
+    /// Takes all sections away. Their memory stays.
+    pub fn clear(&mut self)
         ensures holds { Holds self.new [] }
         ensures bytes { (self.new.bytes ≡ 0) × (self.new.put_bytes ≡ 3) }
     {
-        self.parcel = Parcel::new(alloc);
+        self.parcel.clear();
         self.offsets.clear();
         self.bytes = 0;
         self.put_bytes = 3;

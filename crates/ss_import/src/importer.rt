@@ -17,7 +17,7 @@ use crate::group::Group;
 use ss_car::{CarReader, CarRefusal};
 use ss_cid::{Bytes, Cid, Cids};
 use ss_core::SplitCore;
-use ss_disk::Disk;
+use ss_device::Disk;
 use ss_io::Source;
 use ss_model::{HeadReply, PutReply, ViewReply};
 use std::alloc::Global;
@@ -195,7 +195,7 @@ impl<D: Disk> Importer<D> {
 
     // The bytes that a section takes of a put.
     fn put_bytes(&self, cid: &Cid, block: &Bytes) -> u64
-        ensures bytes { result ≡ held_bytes self.now.core.hot.places (cid.now, block.now) }
+        ensures bytes { result ≡ held_bytes self.now.core (cid.now, block.now) }
         ensures few { result ≤ length cid.now + 4 + max (length block.now) (2 ^ 32 - 1) }
     {
         let kept = self.core.kept_size(cid).unwrap_or(0);
@@ -232,7 +232,7 @@ impl<D: Disk> Importer<D> {
         match stored(self.core.put(alloc, self.view, &self.group.parcel)) {
             Ok(new) => {
                 self.count(new);
-                self.group.clear(alloc);
+                self.group.clear();
                 Ok(())
             }
             Err(PutFault::Block { i, fault }) => Err(self.put_before(alloc, i, fault)),
@@ -250,7 +250,7 @@ impl<D: Disk> Importer<D> {
     // Puts the sections before the one at place `i` of the group, whose block is not stored.
     fn put_before(&mut self, alloc: Global, i: u32, fault: BlockFault) -> ImportFault
         requires ready { IsReady self.old }
-        requires due { (i < length self.old.group.parcel) × IsDueBlock self.old.core.hot.places self.old.group.parcel i fault }
+        requires due { (i < length self.old.group.parcel) × IsDueBlock self.old.core self.old.group.parcel i fault }
         ensures puts { (was : D) (sections left : List Section) (p : Putting was self.old sections left) (s : Section) → Holds self.old.group left → slice_get left i ≡ Some s → IsBlockFault self.old.view p.puts s fault → PutsEnded was self.new sections result }
         ensures count { self.new.sections ≡ self.old.sections }
         ensures faults { (before : ℕ) → FaultCounts before before result }

@@ -1,7 +1,7 @@
 -- What a call of a stream leaves. A stream counts its faults, and the count has risen in each call that answers `Failed`: so a
 -- fault is reported for the stream only where it had one, and none is passed over.
 use Rattle.std.specs.{Prelude.{◌≡◌, ℕ, List, ◌++◌, Option, Result, MatchResult}, Io.KnownBytes.Appends}
-pub use Rattle.ss_disk.specs.Disk.{Rose, HasCause}
+pub use Rattle.ss_device.specs.Disk.{Rose, HasCause}
 
 -- what is written grows by a front of the bytes, where it is told
 abbrev pub AppendsFront : Option (List ℕ) → Option (List ℕ) → List ℕ → Type 0

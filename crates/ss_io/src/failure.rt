@@ -1,4 +1,5 @@
 ghost use Rattle.std.specs.Prelude.{◌≡◌, ◌-◌, ◌<◌, ◌≤◌, ◌↔◌, IsSome};
+ghost use Rattle.std.specs.Option.{option_copied};
 ghost use Rattle.ss_io.specs.Streams.{Rose};
 
 use crate::Failed;
@@ -61,7 +62,8 @@ impl Failures {
     }
 
     pub(crate) fn first(&self) -> Option<&StreamFailure>
-        ensures { IsSome result ↔ (0 < self.now.count) }
+        ensures some { IsSome result ↔ (0 < self.now.count) }
+        ensures value { option_copied result ≡ self.now.first }
     {
         self.first.as_ref()
     }
@@ -69,6 +71,7 @@ impl Failures {
     pub(crate) fn add(&mut self, call: StreamCall, error: io::Error) -> Failed
         ensures later { self.old.count ≤ self.new.count }
         ensures rose { Rose self.old.count self.new.count }
+        ensures first { IsSome self.old.first → self.new.first ≡ self.old.first }
     {
         if self.first.is_none() {
             self.first = Some(StreamFailure { call, error });

@@ -1,6 +1,7 @@
 ghost use Rattle.std.specs.Prelude.{◌≡◌, ◌<◌, ◌≤◌, ◌↔◌, length, IsSome, IfOk};
-ghost use Rattle.std.specs.Io.KnownBytes.{WriteAppends};
-ghost use Rattle.ss_io.specs.Streams.{PutAppends};
+ghost use Rattle.std.specs.Io.KnownBytes.{Keeps, WriteAppends};
+ghost use Rattle.std.specs.Option.{option_copied};
+ghost use Rattle.ss_io.specs.Streams.{HasCause, PutAppends};
 
 use crate::failure::{Failures, StreamCall, StreamFailure};
 use crate::{Failed, Sink};
@@ -29,7 +30,8 @@ impl<W: Write> StdSink<W> {
 
     /// Why a call failed, where one has: the first of them.
     pub fn failure(&self) -> Option<&StreamFailure>
-        ensures { IsSome result ↔ (0 < ⟦<StdSink<W> as Sink>⟧.faults self.now) }
+        ensures some { IsSome result ↔ (0 < ⟦<StdSink<W> as Sink>⟧.faults self.now) }
+        ensures value { option_copied result ≡ self.now.failures.first }
     {
         self.failures.first()
     }
@@ -40,14 +42,26 @@ impl<W: Write> Sink for StdSink<W> {
 
     ghost faults = { λ s. s.failures.count };
 
-    fn put(&mut self, bytes: &[u8]) -> Result<(), Failed> {
+    /// The first failure stays the first.
+    fn put(&mut self, bytes: &[u8]) -> Result<(), Failed>
+        ensures bytes { PutAppends (W.contents self.old.inner) (W.contents self.new.inner) result bytes.now }
+        ensures cause { HasCause self.old.failures.count self.new.failures.count result }
+
+        ensures first { IsSome self.old.failures.first → self.new.failures.first ≡ self.old.failures.first }
+    {
         match write_whole(&mut self.inner, bytes) {
             Ok(()) => Ok(()),
             Err(error) => Err(self.failures.add(StreamCall::Write, error)),
         }
     }
 
-    fn flush(&mut self) -> Result<(), Failed> {
+    /// The first failure stays the first.
+    fn flush(&mut self) -> Result<(), Failed>
+        ensures bytes { Keeps (W.contents self.old.inner) (W.contents self.new.inner) }
+        ensures cause { HasCause self.old.failures.count self.new.failures.count result }
+
+        ensures first { IsSome self.old.failures.first → self.new.failures.first ≡ self.old.failures.first }
+    {
         match self.inner.flush() {
             Ok(()) => Ok(()),
             Err(error) => Err(self.failures.add(StreamCall::Flush, error)),

@@ -1,7 +1,8 @@
-ghost use Rattle.std.specs.Prelude.{◌≡◌, ◌<◌, ◌↔◌, [], IsTrue, IsSome};
-ghost use Rattle.std.specs.Option.{ForSome};
+ghost use Rattle.std.specs.Prelude.{◌≡◌, ◌<◌, ◌↔◌, [], length, IsTrue, IsSome, Ok};
+ghost use Rattle.std.specs.Option.{ForSome, option_copied};
 ghost use Rattle.std.specs.Io.{ReadsAtMost};
 ghost use Rattle.std.specs.Io.KnownBytes.{ReadConsumes};
+ghost use Rattle.ss_io.specs.Streams.{HasCause};
 
 use crate::failure::{Failures, StreamCall, StreamFailure};
 use crate::{Failed, Source};
@@ -33,7 +34,8 @@ impl<R: Read> StdSource<R> {
 
     /// Why a call failed, where one has: the first of them.
     pub fn failure(&self) -> Option<&StreamFailure>
-        ensures { IsSome result ↔ (0 < ⟦<StdSource<R> as Source>⟧.faults self.now) }
+        ensures some { IsSome result ↔ (0 < ⟦<StdSource<R> as Source>⟧.faults self.now) }
+        ensures value { option_copied result ≡ self.now.failures.first }
     {
         self.failures.first()
     }
@@ -44,7 +46,16 @@ impl<R: Read> Source for StdSource<R> {
 
     ghost faults = { λ s. s.failures.count };
 
-    fn read(&mut self, out: &mut [u8]) -> Result<usize, Failed> {
+    /// An input that has ended is not asked again, and the first failure stays the first.
+    fn read(&mut self, out: &mut [u8]) -> Result<usize, Failed>
+        ensures bound { ReadsAtMost result out.new }
+        ensures bytes { ReadConsumes (R.remaining self.old.inner) (R.remaining self.new.inner) result out.new }
+        ensures cause { HasCause self.old.failures.count self.new.failures.count result }
+
+        ensures ended { IsTrue self.old.ended → (result ≡ Ok 0) × (self.new ≡ self.old) }
+        ensures ends { result ≡ Ok 0 → 0 < length out.old → IsTrue self.new.ended }
+        ensures first { IsSome self.old.failures.first → self.new.failures.first ≡ self.old.failures.first }
+    {
         if self.ended {
             return Ok(0);
         }

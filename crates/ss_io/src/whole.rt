@@ -1,9 +1,9 @@
 //! Reading a source to its end.
 
-ghost use Rattle.std.specs.Prelude.{◌≡◌, ◌≢◌, ◌<◌, ◌≤◌, vec_len, length, Err, IfOk};
+ghost use Rattle.std.specs.Prelude.{◌≡◌, ◌<◌, ◌≤◌, vec_len, length, Err, IfOk};
 ghost use Rattle.std.specs.Option.{ForSome};
 ghost use Rattle.std.specs.Io.KnownBytes.{Consumes, IsAtEnd};
-ghost use Rattle.ss_io.specs.Streams.{Rose};
+ghost use Rattle.ss_device.specs.Faults.{CountsFault};
 
 use crate::{Failed, Source};
 use ss_cid::NoMemory;
@@ -54,9 +54,8 @@ pub fn read_all<S: Source>(
 ) -> Result<Vec<u8>, ReadAllFault>
     ensures all { IfOk result (λ bytes. Consumes (S.left source.old) (S.left source.new) bytes.items × IsAtEnd (S.left source.new)) }
     ensures within { IfOk result (λ bytes. vec_len bytes ≤ limit) }
-    ensures failed { result ≡ Err ReadAllFault.Failed → Rose (S.faults source.old) (S.faults source.new) }
+    ensures counts { CountsFault ReadAllFault.Failed (S.faults source.old) (S.faults source.new) result }
     ensures too_long { result ≡ Err ReadAllFault.TooLong → ForSome (S.left source.old) (λ bytes. limit < length bytes) }
-    ensures no_fault { result ≢ Err ReadAllFault.Failed → S.faults source.new ≡ S.faults source.old }
     ensures place { S.place source.new ≡ S.place source.old }
 {
     let mut bytes = Vec::new(alloc);

@@ -1,5 +1,5 @@
 //! Marks.
-ghost use Rattle.std.specs.Prelude.{◌≡◌, ◌≢◌, ℕ, ◌+◌, ◌-◌, ◌<◌, ◌≤◌, ◌^◌, ◌↔◌, List, Option, None, Some, Ok, Err, OnOk, OnErr, MatchOption, option_map};
+ghost use Rattle.std.specs.Prelude.{◌≡◌, ◌≢◌, ℕ, ◌+◌, ◌-◌, ◌/◌, ◌<◌, ◌≤◌, ◌^◌, ◌↔◌, max, List, Option, None, Some, Ok, Err, OnOk, OnErr, MatchOption, option_map};
 ghost use Rattle.std.specs.FinMap as finite_map;
 ghost use Rattle.ss_marks.specs.declared.colour.Colour.TheVariants as colour;
 ghost use Rattle.ss_marks.specs.Marks.{row_of, colour_of, mark_of, IsLive, IsColoured, NoneIs, Recolours, coloured, whitened, count_in};
@@ -66,12 +66,14 @@ impl Marks {
     }
 
     /// Makes room for `n` more rows: as many calls of [`Marks::add`] then need no memory, whatever is removed between them.
+    /// It makes room for no more than these and an eighth of the rows that there was room for.
     ///
     /// `TableFull`, exactly where the live rows and `n` are together more than the limit, with that sum; and else
     /// `NoMemory`, never where there was room for `n` already. A refusal leaves the marks as they were.
     pub fn reserve(&mut self, n: u32) -> Result<(), RowFault>
         ensures ok { OnOk result (n ≤ self.new.spare) }
         ensures grows { OnOk result (self.old.spare ≤ self.new.spare) }
+        ensures little { OnOk result (self.new.spare ≤ self.old.spare + n + (self.old.spare + finite_map.len self.old.marks) / 8) }
         ensures same { self.new ≡ record self.old { spare = self.new.spare } }
         ensures err { OnErr result (self.new ≡ self.old) }
         ensures full { (rows : ℕ) → (result ≡ Err (RowFault.TableFull rows)) ↔ ((rows ≡ finite_map.len self.old.marks + n) × (self.old.limit < rows)) }
@@ -227,6 +229,7 @@ fn next_slots(slots: u64, rows: u64, limit: u64) -> usize
     requires small { limit < 2 ^ 32 }
     requires few { slots ≤ limit }
     ensures enough { rows ≤ result }
+    ensures little { result ≤ max (slots + slots / 8) rows }
     ensures within { result ≤ limit }
 {
     (slots + slots / 8).max(rows).min(limit) as usize

@@ -3,7 +3,7 @@
 -- Each call has a list of answers, and the lawful one is the first whose condition holds. Three answers depend on more than
 -- the state: out of memory, a full log, whose room no state has, and a fault of the disk. Each may stand in its place in
 -- the list, and a later one too. Only an answer that is named with an effect changes the state.
-use Rattle.std.specs.{Prelude.{◌≡◌, ◌≢◌, ℕ, ◌+◌, ◌-◌, ◌^◌, ◌<◌, ◌≤◌, nat_le, min, max, Bool, true, false, ◌||◌, List, [], ◌∷◌, length, Option, None, Some, if◌then◌else◌, is_some, option_map, IsOk, Err, slice_get, sum_by}, Ordering.nat_cmp, Cmp.Lexicographic.slice_cmp, BTreeMap.{BTreeMap, get}}
+use Rattle.std.specs.{Prelude.{◌≡◌, ◌≢◌, ℕ, ◌+◌, ◌-◌, ◌^◌, ◌<◌, ◌≤◌, nat_le, min, max, Bool, true, false, ◌||◌, List, [], ◌∷◌, length, Option, None, Some, if◌then◌else◌, is_some, option_map, IsOk, Err, slice_get, sum_by, map as list_map}, Option.unwrap_or, Ordering.nat_cmp, Cmp.Lexicographic.slice_cmp, BTreeMap.{BTreeMap, get}}
 use Rattle.ss_cid.specs.Cid.{codec_of, identity_of}
 use Rattle.ss_cbor.specs.{Fault.scanned, declared.fault.CborFault.CborFault}
 use Rattle.ss_chain.specs.{Fetch.fetched, Steps.passes}
@@ -47,10 +47,18 @@ rows_after s pairs = map.len (with_blocks s.kept pairs)
 unfoldable pub is_left_out : CidSet → List ℕ → Bool
 is_left_out hot c = is_some (identity_of c) || set.contains hot c
 
--- the pairs of a parcel that the record of its put has, in order, each where its CID first stands
+-- the pairs of a parcel of which the record of its put has the CIDs, in order, each where its CID first stands
 abbrev pub new_pairs : CidSet → List (List ℕ × List ℕ) → List (List ℕ × List ℕ)
 new_pairs hot [] = []
 new_pairs hot (p ∷ pairs) = if is_left_out hot p.0 then new_pairs hot pairs else p ∷ new_pairs (set.insert hot p.0) pairs
+
+-- the pair as a record has it: with the bytes that are kept under its CID, if there are any, and else with its own
+abbrev pub written_pair : Kept → List ℕ × List ℕ → List ℕ × List ℕ
+written_pair kept p = (p.0, unwrap_or (map.get kept p.0) p.1)
+
+-- the pairs that the record of a put has: of a CID that is kept and not hot the bytes that are kept
+abbrev pub written_pairs : Kept → CidSet → List (List ℕ × List ℕ) → List (List ℕ × List ℕ)
+written_pairs kept hot pairs = list_map (written_pair kept) (new_pairs hot pairs)
 
 -- the bytes that one pair takes of a record: its CID, a length of four bytes, and its block
 abbrev pub written_bytes : List ℕ × List ℕ → ℕ
@@ -137,7 +145,7 @@ pub record IsAdmitted (s : State) (v : ℕ) (pairs : List (List ℕ × List ℕ)
 abbrev pub LawfulPut : State → ℕ → List (List ℕ × List ℕ) → PutReply → Type 0
 LawfulPut s v pairs PutReply.NoMemory = IsPassed s v pairs
 LawfulPut s v pairs (PutReply.TableFull rows) = IsPassed s v pairs × (rows ≡ rows_after s pairs) × (s.config.rows < rows)
-LawfulPut s v pairs (PutReply.LogFull file need room) = IsAdmitted s v pairs × (file ≡ 0) × (new_pairs s.hot pairs ≢ []) × (need ≡ pairs_need (new_pairs s.hot pairs)) × (room < need)
+LawfulPut s v pairs (PutReply.LogFull file need room) = IsAdmitted s v pairs × (file ≡ 0) × (written_pairs s.kept s.hot pairs ≢ []) × (need ≡ pairs_need (written_pairs s.kept s.hot pairs)) × (room < need)
 LawfulPut s v pairs PutReply.DiskFault = IsAdmitted s v pairs
 LawfulPut s v pairs (PutReply.Stored new) = IsAdmitted s v pairs × (map.len s.kept + new ≡ rows_after s pairs)
 LawfulPut s v pairs refusal = IsPutRefusal s v pairs refusal
@@ -199,30 +207,103 @@ After s (Call.CloseView v) (Answer.Close CloseReply.Closed) = record s { views =
 After s (Call.SetHead cids) (Answer.Head r) = after_head s cids r
 After s _ _ = s
 
+-- What kept a call from its end that its view, its CIDs and its blocks do not decide: nothing did; memory; a fault of the disk; the room
+-- of a log, with its file, the need and the room; or the rows of the table, with their number.
+pub data Obstacle : Type 0 where
+  no_obstacle : Obstacle
+  of_memory : Obstacle
+  of_disk : Obstacle
+  of_log : ℕ → ℕ → ℕ → Obstacle
+  of_table : ℕ → Obstacle
+
+abbrev pub put_obstacle : PutReply → Obstacle
+put_obstacle PutReply.BadView = no_obstacle
+put_obstacle (PutReply.TooMany n) = no_obstacle
+put_obstacle (PutReply.TooBig n) = no_obstacle
+put_obstacle (PutReply.TooLarge i) = no_obstacle
+put_obstacle (PutReply.UnknownHash i) = no_obstacle
+put_obstacle (PutReply.Mismatch i) = no_obstacle
+put_obstacle (PutReply.Malformed i kind at) = no_obstacle
+put_obstacle PutReply.NoMemory = of_memory
+put_obstacle (PutReply.TableFull rows) = of_table rows
+put_obstacle (PutReply.LogFull file need room) = of_log file need room
+put_obstacle PutReply.DiskFault = of_disk
+put_obstacle (PutReply.Stored new) = no_obstacle
+
+abbrev pub get_obstacle : GetReply → Obstacle
+get_obstacle GetReply.BadView = no_obstacle
+get_obstacle GetReply.NotFound = no_obstacle
+get_obstacle GetReply.NoMemory = of_memory
+get_obstacle GetReply.DiskFault = of_disk
+get_obstacle (GetReply.Found block) = no_obstacle
+
+abbrev pub head_obstacle : HeadReply → Obstacle
+head_obstacle HeadReply.Empty = no_obstacle
+head_obstacle (HeadReply.TooMany n) = no_obstacle
+head_obstacle (HeadReply.Repeated i) = no_obstacle
+head_obstacle (HeadReply.Absent i) = no_obstacle
+head_obstacle HeadReply.NoMemory = of_memory
+head_obstacle HeadReply.DiskFault = of_disk
+head_obstacle (HeadReply.NotHeader i) = no_obstacle
+head_obstacle (HeadReply.HeightDiffers i) = no_obstacle
+head_obstacle (HeadReply.ParentsDiffer i) = no_obstacle
+head_obstacle (HeadReply.LogFull file need room) = of_log file need room
+head_obstacle (HeadReply.Set height) = no_obstacle
+
+abbrev pub obstacle_of : Answer → Obstacle
+obstacle_of (Answer.View r) = no_obstacle
+obstacle_of (Answer.Close r) = no_obstacle
+obstacle_of (Answer.Put r) = put_obstacle r
+obstacle_of (Answer.Get r) = get_obstacle r
+obstacle_of (Answer.Has r) = no_obstacle
+obstacle_of (Answer.Size r) = no_obstacle
+obstacle_of (Answer.Head r) = head_obstacle r
+obstacle_of (Answer.Info i) = no_obstacle
+
+-- it is memory
+abbrev pub is_memory : Obstacle → Bool
+is_memory no_obstacle = false
+is_memory of_memory = true
+is_memory of_disk = false
+is_memory (of_log file need room) = false
+is_memory (of_table rows) = false
+
+abbrev pub is_fault : Obstacle → Bool
+is_fault no_obstacle = false
+is_fault of_memory = false
+is_fault of_disk = true
+is_fault (of_log file need room) = false
+is_fault (of_table rows) = false
+
+abbrev pub is_full_log : Obstacle → Bool
+is_full_log no_obstacle = false
+is_full_log of_memory = false
+is_full_log of_disk = false
+is_full_log (of_log file need room) = true
+is_full_log (of_table rows) = false
+
+abbrev pub is_full_table : Obstacle → Bool
+is_full_table no_obstacle = false
+is_full_table of_memory = false
+is_full_table of_disk = false
+is_full_table (of_log file need room) = false
+is_full_table (of_table rows) = true
+
 -- the answer is out of memory
 abbrev pub is_no_memory : Answer → Bool
-is_no_memory (Answer.Put PutReply.NoMemory) = true
-is_no_memory (Answer.Get GetReply.NoMemory) = true
-is_no_memory (Answer.Head HeadReply.NoMemory) = true
-is_no_memory _ = false
+is_no_memory a = is_memory (obstacle_of a)
 
 -- the answer is a fault of the disk
 abbrev pub is_disk_fault : Answer → Bool
-is_disk_fault (Answer.Put PutReply.DiskFault) = true
-is_disk_fault (Answer.Get GetReply.DiskFault) = true
-is_disk_fault (Answer.Head HeadReply.DiskFault) = true
-is_disk_fault _ = false
+is_disk_fault a = is_fault (obstacle_of a)
 
 -- the answer is that too many CIDs would be kept
 abbrev pub is_table_full : Answer → Bool
-is_table_full (Answer.Put (PutReply.TableFull rows)) = true
-is_table_full _ = false
+is_table_full a = is_full_table (obstacle_of a)
 
 -- the answer is that a log has no room
 abbrev pub is_log_full : Answer → Bool
-is_log_full (Answer.Put (PutReply.LogFull file need room)) = true
-is_log_full (Answer.Head (HeadReply.LogFull file need room)) = true
-is_log_full _ = false
+is_log_full a = is_full_log (obstacle_of a)
 
 -- the block of the pair at an index, if one is given
 abbrev pub block_at : List (List ℕ × List ℕ) → Option ℕ → Option (List ℕ)

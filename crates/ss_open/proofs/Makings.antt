@@ -2,14 +2,15 @@
 use Rattle.std.proofs.Common.{◌≡◌, inl, inr, ⊎_elim, ℕ, ◌+◌, ◌<◌, ◌≤◌, true, false, List, [], refl, sym, ap, ◌∙◌, subst, true≢false, arith}
 use Rattle.std.specs.Prelude.{IsTrue, Result, Ok, Err, is_err, IfOk, IfErr, OnOk, OnErr}
 use Rattle.std.proofs.lemmas.Bool.{cases_lt}
-use Rattle.ss_disk.specs.declared.disk.Disk.{Ghosts}
-use Rattle.ss_disk.specs.Disk.{Files, Torn, Same, Changes, Rose}
-use Rattle.ss_disk.specs.Calls.{Goes, Touches}
-use Rattle.ss_disk.proofs.Goes.{goes_on}
-use Rattle.ss_disk.proofs.Moments as moments
+use Rattle.ss_device.specs.declared.disk.Disk.{Ghosts}
+use Rattle.ss_device.specs.Disk.{Files, Torn, Same, Changes, Rose}
+use Rattle.ss_device.specs.Calls.{Goes, Touches}
+use Rattle.ss_device.proofs.Goes.{goes_on}
+use Rattle.ss_device.proofs.Moments as moments
 use Rattle.ss_gatelog.specs.Log.{Spells, HasList}
 use Rattle.ss_gatelog.specs.GateLog.{Log, IsSure, CountsFault}
 use Rattle.ss_records.specs.declared.record.Config.{Config as Settings}
+use Rattle.ss_core.specs.LogFiles.{hot_file}
 use Rattle.ss_open.specs.Opening.{HasNoStore, KeepsFirst, EmptiesFirst, AreEmptyBeside, IsInitFault, Inits}
 use Rattle.ss_open.specs.declared.fault.OpenFault.{OpenFault}
 
@@ -34,7 +35,7 @@ module _ {D : Type 0} (disk : Ghosts D) where
   -- a file that is not the hot log's changes, after others
   pub first_stays : (file : ℕ) (was old new : D) → 1 ≤ file → Goes disk KeepsFirst was old → Goes disk (Changes file (Torn 0 1)) old new → Goes disk KeepsFirst was new
   first_stays file was old new some before goes =
-      goes_on disk was old new KeepsFirst (Changes file (Torn 0 1)) KeepsFirst before goes (λ a b kept. kept) (λ a b c kept changes. changes.elsewhere 0 (λ is. omega (arith, some, is)) ∙ kept)
+      goes_on disk was old new KeepsFirst (Changes file (Torn 0 1)) KeepsFirst before goes (λ a b kept. kept) (λ a b c kept changes. changes.elsewhere hot_file (λ is. omega (arith, some, is)) ∙ kept)
 
   -- no file has changed yet
   pub none_yet : (now : D) → Goes disk KeepsFirst now now
@@ -55,12 +56,12 @@ module _ {D : Type 0} (disk : Ghosts D) where
     ]
 
     -- files that were emptied stay so where the hot log alone changes
-    still_empty : (a b : Files) → AreEmptyBeside limit a → Changes 0 (λ _ _. Unit {0}) a b → AreEmptyBeside limit b
+    still_empty : (a b : Files) → AreEmptyBeside limit a → Changes hot_file (λ _ _. Unit {0}) a b → AreEmptyBeside limit b
     still_empty a b empty changes file low high = subst (λ (bytes : List ℕ). HasList limit bytes []) (sym (changes.elsewhere file (λ is. omega (arith, low, is)))) (empty file low high)
 
-    pub empty_still : (old new : D) → Touches disk 0 old new → ((left : Files) → disk.image old (disk.moment old) left → AreEmptyBeside limit left) → (left : Files) → disk.image new (disk.moment new) left → AreEmptyBeside limit left
+    pub empty_still : (old new : D) → Touches disk hot_file old new → ((left : Files) → disk.image old (disk.moment old) left → AreEmptyBeside limit left) → (left : Files) → disk.image new (disk.moment new) left → AreEmptyBeside limit left
     empty_still old new touches before left now =
-        let from = moments.now_from (disk.moment old) (disk.moment new) (disk.image old) (disk.image new) (Changes 0 (λ _ _. Unit {0})) (touches.images told) left now in
+        let from = moments.now_from (disk.moment old) (disk.moment new) (disk.image old) (disk.image new) (Changes hot_file (λ _ _. Unit {0})) (touches.images told) left now in
         still_empty from.0 left (before from.0 from.1) from.2
 
     -- the other files alone changed
@@ -68,19 +69,19 @@ module _ {D : Type 0} (disk : Ghosts D) where
     emptying old new goes = moments.widens (disk.moment old) (disk.moment new) (disk.image old) (disk.image new) KeepsFirst _ (goes.images told) (λ a b left kept. inl kept)
 
     -- once they are empty logs the hot log changes
-    pub writing : (old mid new : D) → Goes disk KeepsFirst old mid → ((left : Files) → disk.image mid (disk.moment mid) left → AreEmptyBeside limit left) → Touches disk 0 mid new → EmptiesFirst disk limit old new
+    pub writing : (old mid new : D) → Goes disk KeepsFirst old mid → ((left : Files) → disk.image mid (disk.moment mid) left → AreEmptyBeside limit left) → Touches disk hot_file mid new → EmptiesFirst disk limit old new
     writing old mid new first empty second =
-        moments.goes_on (disk.moment old) (disk.moment mid) (disk.moment new) (disk.image old) (disk.image mid) (disk.image new) KeepsFirst (Changes 0 (λ _ _. Unit {0})) _ (first.images told) (second.images told) (λ a b left kept. inl kept)
+        moments.goes_on (disk.moment old) (disk.moment mid) (disk.moment new) (disk.image old) (disk.image mid) (disk.image new) KeepsFirst (Changes hot_file (λ _ _. Unit {0})) _ (first.images told) (second.images told) (λ a b left kept. inl kept)
         (λ a b c left kept left' changes. inr (still_empty b c (empty b left') changes))
 
     -- before all that files are read
     pub after_reading : (old mid new : D) → Goes disk Same old mid → EmptiesFirst disk limit mid new → EmptiesFirst disk limit old new
     after_reading old mid new same empties =
-        moments.goes_on (disk.moment old) (disk.moment mid) (disk.moment new) (disk.image old) (disk.image mid) (disk.image new) Same _ _ (same.images told) empties (λ a b left is. inl (ap (λ (f : Files). f 0) is))
-        (λ a b c left is left' either. ⊎_elim (λ kept. inl (kept ∙ ap (λ (f : Files). f 0) is)) (λ empty. inr empty) either)
+        moments.goes_on (disk.moment old) (disk.moment mid) (disk.moment new) (disk.image old) (disk.image mid) (disk.image new) Same _ _ (same.images told) empties (λ a b left is. inl (ap (λ (f : Files). f hot_file) is))
+        (λ a b c left is left' either. ⊎_elim (λ kept. inl (kept ∙ ap (λ (f : Files). f hot_file) is)) (λ empty. inr empty) either)
 
     pub only_read : (old new : D) → Goes disk Same old new → EmptiesFirst disk limit old new
-    only_read old new same = moments.widens (disk.moment old) (disk.moment new) (disk.image old) (disk.image new) Same _ (same.images told) (λ a b left is. inl (ap (λ (f : Files). f 0) is))
+    only_read old new same = moments.widens (disk.moment old) (disk.moment new) (disk.image old) (disk.image new) Same _ (same.images told) (λ a b left is. inl (ap (λ (f : Files). f hot_file) is))
 
 -- ---- what making comes to
 
@@ -98,7 +99,7 @@ module _ {D T : Type 0} (disk : Ghosts D) (was now : D) (settings : Settings) (r
   inits_none errors goes counts = record { errors = errors; counts = counts; kept = λ told. inr goes; memory = λ _. goes; stops = λ told. only_read disk told settings.limit was now goes }
 
   -- there was no store, and files were emptied
-  pub inits_emptied : IfErr r IsInitFault → (IsTrue disk.told → HasNoStore (disk.files was 0)) → (r ≡ Err OpenFault.NoMemory → ⊥) → CountsFault OpenFault.DiskFault (disk.faults was) (disk.faults now) r → (IsTrue disk.told → EmptiesFirst disk settings.limit was now) → Inits disk was now settings r
+  pub inits_emptied : IfErr r IsInitFault → (IsTrue disk.told → HasNoStore (disk.files was)) → (r ≡ Err OpenFault.NoMemory → ⊥) → CountsFault OpenFault.DiskFault (disk.faults was) (disk.faults now) r → (IsTrue disk.told → EmptiesFirst disk settings.limit was now) → Inits disk was now settings r
   inits_emptied errors none other counts stops = record { errors = errors; counts = counts; kept = λ told. inl (none told); memory = λ is. absurd (other is); stops = stops }
 
   -- an answer other than the disk's fault: none was counted

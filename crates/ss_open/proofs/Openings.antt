@@ -1,5 +1,5 @@
 -- The state that a file has when its store is opened, and when it is made.
-use Rattle.std.proofs.Common.{◌≡◌, ◌⊎◌, inl, inr, ⊎_elim, ℕ, ◌<◌, ◌≤◌, false, List, [], length, None, refl, sym, ap, ◌∙◌, subst, arith}
+use Rattle.std.proofs.Common.{◌≡◌, ◌⊎◌, inl, inr, ⊎_elim, ℕ, ◌<◌, ◌≤◌, false, List, [], refl, sym, ap, ◌∙◌, subst, arith}
 use Rattle.std.specs.Prelude.{is_some, Result, Err, slice_index}
 use Rattle.std.proofs.lemmas.Bool.{cases_lt}
 use Rattle.std.specs.Ordering.{nat_cmp}
@@ -8,28 +8,26 @@ use Rattle.std.specs.FinMap as finite_map
 use Rattle.std.specs.FinMap.{contains_key-keys, get-empty}
 use Rattle.std.specs.FinSet as finite_set
 use Rattle.std.specs.FinSet.{contains-from_list, contains-empty}
-use Rattle.ss_disk.specs.declared.disk.Disk.{Ghosts}
-use Rattle.ss_disk.specs.Disk.{Same}
-use Rattle.ss_disk.specs.Calls.{Goes}
+use Rattle.ss_device.specs.declared.disk.Disk.{Ghosts}
+use Rattle.ss_device.specs.Disk.{Files, Same}
+use Rattle.ss_device.specs.Calls.{Goes}
 use Rattle.ss_gatelog.specs.GateLog.{CountsFault}
-use Rattle.ss_gatelog.specs.Log.{spelled}
 use Rattle.ss_records.specs.declared.record.Config.{Config as Settings}
 use Rattle.ss_records.specs.declared.record.Record.{Record}
-use Rattle.ss_store.specs.Append.{bodies}
 use Rattle.ss_store.specs.declared.fault.StoreFault.{StoreFault}
 use Rattle.ss_store.specs.declared.fault.StoreFault.TheVariants as store_fault
 use Rattle.ss_hot.specs.Half.{hot_blocks, head_of, base_of}
-use Rattle.ss_hot.specs.Half.{HasSettings, IsHalf}
+use Rattle.ss_hot.specs.Half.{IsHalf, IsDamagedHalf}
 use Rattle.ss_hot.proofs.EachReading.{each_reading}
 use Rattle.ss_hot.proofs.Places.{places_len}
 use Rattle.ss_hot.proofs.Readings.{settings_once, records_once, apart, place_once}
 use Rattle.ss_hot.specs.Store.{Hot, Keeps, first_records, IsOpeningFault}
 use Rattle.ss_model.specs.State.{State, empty_state}
 use Rattle.ss_core.specs.declared.split_core.SplitCore.{SplitCore}
-use Rattle.ss_core.specs.StandsFor.{IsLeftBy, HasState, StandsFor}
-use Rattle.ss_core.proofs.Images.{end_of}
+use Rattle.ss_core.specs.LogFiles.{hot_file}
+use Rattle.ss_core.specs.StandsFor.{no_doubt, IsLeftBy, HasState, StandsFor}
 use Rattle.ss_core.proofs.Settling.{keeps_sure}
-use Rattle.ss_open.specs.Opening.{open_fault, HasTooMany, IsDamagedStore, IsOpenFault, Opens}
+use Rattle.ss_open.specs.Opening.{open_fault, IsCommitted, HasTooMany, IsDamagedStore, IsOpenFault, Opens}
 use Rattle.ss_open.specs.declared.fault.OpenFault.{OpenFault}
 use Rattle.ss_open.specs.declared.fault.OpenFault.TheVariants as opening
 
@@ -60,12 +58,12 @@ pub as_many : {D : Type 0} (disk : Ghosts D) (now : D) (hot : Hot) (records othe
 as_many disk now hot records others keeps = ap finite_map.len keeps.tells.places ∙ places_len hot.log.file records
 
 -- a store that was opened stands for the state that its file has
-pub opened : {D : Type 0} (disk : Ghosts D) (now : D) (file : List ℕ) (hot : Hot) (core : SplitCore D disk) (records : List Record) → IsHalf file hot.settings records → Keeps disk now hot records [] → hot.log.unsure ≡ false → core.hot ≡ hot → finite_map.len hot.places ≤ hot.settings.rows
-    → ((s : State) → Keeps disk now hot records records → IsLeftBy hot.settings records s → s.views ≡ finite_set.empty → StandsFor core s None) → (s : State) × HasState file core.hot.log.end s × StandsFor core s None
-opened disk now file hot core records half keeps sure same few stands =
+pub opened : {D : Type 0} (disk : Ghosts D) (now : D) (files : Files) (hot : Hot) (core : SplitCore D disk) (records : List Record) → IsHalf (files hot_file) hot.settings records → Keeps disk now hot records [] → hot.log.unsure ≡ false → core.hot ≡ hot → finite_map.len hot.places ≤ hot.settings.rows
+    → ((s : State) → Keeps disk now hot records records → IsLeftBy hot.settings records s → s.views ≡ finite_set.empty → StandsFor core s no_doubt) → (s : State) × HasState files s × StandsFor core s no_doubt
+opened disk now files hot core records half keeps sure same few stands =
     let left = left_so hot.settings records (omega (arith, as_many disk now hot records [] keeps, few)) in (
       state_of hot.settings records,
-      record { settings = hot.settings; records = records; half = half; state = left; closed = refl; ends = ap (λ (h : Hot). h.log.end) same ∙ end_of disk now hot.log (bodies records) (bodies []) keeps.stands },
+      record { settings = hot.settings; records = records; half = half; state = left; closed = refl },
       stands (state_of hot.settings records) (keeps_sure disk now hot records [] records sure keeps) left refl,
     )
 
@@ -78,11 +76,11 @@ pub counted_none : {T : Type 0} (before now : ℕ) (f : StoreFault) → (f ≡ s
 counted_none {T = T} before now f other counts = ⊎_elim (λ (same : ◌≡◌ {A = Result T StoreFault} (Err f) (Err store_fault.DiskFault)). absurd (other (cc (same)))) (λ kept. kept) counts.kept
 
 -- a store that is not opened for a fault of its log
-pub not_opened : {D T : Type 0} (disk : Ghosts D) (was back : D) (f : StoreFault) (r : OpenFault) → r ≡ open_fault f → IsOpeningFault f → ((file at : ℕ) → f ≡ store_fault.Damaged file at → file ≡ 0)
+pub not_opened : {D T : Type 0} (disk : Ghosts D) (was back : D) (f : StoreFault) (r : OpenFault) → r ≡ open_fault f → IsOpeningFault f → ((file at : ℕ) → f ≡ store_fault.Damaged file at → file ≡ hot_file)
     → CountsFault {T = T} store_fault.DiskFault (disk.faults was) (disk.faults back) (Err f) → Goes disk Same was back → Opens {D = D} {disk = disk} was (Err (r, back))
 not_opened {D = D} {T = T} disk was back f r is able in_hot counts goes = subst (λ (r : OpenFault). Opens {D = D} {disk = disk} was (Err (r, back))) (sym is) (at f able in_hot counts)
   where
-    at : (x : StoreFault) → IsOpeningFault x → ((file at : ℕ) → x ≡ store_fault.Damaged file at → file ≡ 0) → CountsFault {T = T} store_fault.DiskFault (disk.faults was) (disk.faults back) (Err x) → Opens {D = D} {disk = disk} was (Err (open_fault x, back))
+    at : (x : StoreFault) → IsOpeningFault x → ((file at : ℕ) → x ≡ store_fault.Damaged file at → file ≡ hot_file) → CountsFault {T = T} store_fault.DiskFault (disk.faults was) (disk.faults back) (Err x) → Opens {D = D} {disk = disk} was (Err (open_fault x, back))
     at store_fault.NoMemory able in_hot counts = record { fits = tt; views = tt; errors = λ y c same. subst IsOpenFault (fault_is opening.NoMemory y back c same) tt; counts = counted_none _ _ store_fault.NoMemory (λ wrong. let differ : ⊥ = cc (wrong) in differ) counts; goes = goes }
     at store_fault.DiskFault able in_hot counts = record { fits = tt; views = tt; errors = λ y c same. subst IsOpenFault (fault_is opening.DiskFault y back c same) tt; counts = counts.rose refl; goes = goes }
     at (store_fault.Damaged file place) able in_hot counts = record {
@@ -94,44 +92,43 @@ not_opened {D = D} {T = T} disk was back f r is able in_hot counts goes = subst 
     }
     at (store_fault.LogFull file need room) able in_hot counts = absurd (able file need room refl)
 
--- ---- a file has a state or is damaged
+-- ---- files have a state or are damaged
 
-module _ (file : List ℕ) where
-  pub state_or_damaged : (settings : Settings) → ((i : ℕ) → slice_index file i < 256) → HasSettings file settings → ((s : State) × (end : ℕ) × HasState file end s) ⊎ ((at : ℕ) × IsDamagedStore file at)
+module _ (files : Files) where
+  pub state_or_damaged : (settings : Settings) → ((file i : ℕ) → slice_index (files file) i < 256) → IsCommitted files settings → ((s : State) × HasState files s) ⊎ ((file at : ℕ) × IsDamagedStore files file at)
   state_or_damaged settings small committed = ⊎_elim
       (λ found. by_rows found.0 found.1 (cases_lt settings.rows (finite_map.len (hot_blocks found.0))))
-      (λ damaged. inr (damaged.0, inl damaged.1))
-      (each_reading file settings small committed)
+      (λ damaged. inr (hot_file, damaged.0, (refl, inl damaged.1)))
+      (each_reading (files hot_file) settings (small hot_file) committed)
     where
-      by_rows : (records : List Record) → IsHalf file settings records → (settings.rows < finite_map.len (hot_blocks records)) ⊎ (finite_map.len (hot_blocks records) ≤ settings.rows) → ((s : State) × (end : ℕ) × HasState file end s) ⊎ ((at : ℕ) × IsDamagedStore file at)
-      by_rows records half (inr few) = inl (
-        state_of settings records,
-        length (spelled (bodies records)),
-        record { settings = settings; records = records; half = half; state = left_so settings records few; closed = refl; ends = refl },
-      )
-      by_rows records half (inl many) = inr (14, inr ((settings, records, half, many), refl))
+      by_rows : (records : List Record) → IsHalf (files hot_file) settings records → (settings.rows < finite_map.len (hot_blocks records)) ⊎ (finite_map.len (hot_blocks records) ≤ settings.rows) → ((s : State) × HasState files s) ⊎ ((file at : ℕ) × IsDamagedStore files file at)
+      by_rows records half (inr few) = inl (state_of settings records, record { settings = settings; records = records; half = half; state = left_so settings records few; closed = refl })
+      by_rows records half (inl many) = inr (hot_file, 14, (refl, inr ((settings, records, half, many), refl)))
 
   -- two halves have the same records, and the settings of their store
-  crowded : (s : State) (end : ℕ) → HasTooMany file → HasState file end s → ⊥
-  crowded s end many has = omega (
+  crowded : (s : State) → HasTooMany files → HasState files s → ⊥
+  crowded s many has = omega (
     arith,
     many.3,
     has.state.rows,
     ap (λ kept. finite_map.len kept) has.state.kept,
     ap (λ (c : Settings). c.rows) has.state.config,
-    ap (λ (c : Settings). c.rows) (settings_once file many.0 has.settings many.2.committed has.half.committed),
-    ap (λ (rs : List Record). finite_map.len (hot_blocks rs)) (records_once file many.0 has.settings many.1 has.records many.2 has.half),
+    ap (λ (c : Settings). c.rows) (settings_once (files hot_file) many.0 has.settings many.2.committed has.half.committed),
+    ap (λ (rs : List Record). finite_map.len (hot_blocks rs)) (records_once (files hot_file) many.0 has.settings many.1 has.records many.2 has.half),
   )
 
-  pub stands_apart : (at end : ℕ) (s : State) → IsDamagedStore file at → HasState file end s → ⊥
-  stands_apart at end s (inl damaged) has = apart file at has.settings has.records damaged has.half
-  stands_apart at end s (inr many) has = crowded s end many.0 has
+  pub stands_apart : (file at : ℕ) (s : State) → IsDamagedStore files file at → HasState files s → ⊥
+  stands_apart file at s (is, inl damaged) has = apart (files hot_file) at has.settings has.records damaged has.half
+  stands_apart file at s (is, inr many) has = crowded s many.0 has
 
-  pub one_offset : (at at' : ℕ) → IsDamagedStore file at → IsDamagedStore file at' → at ≡ at'
-  one_offset at at' (inl a) (inl b) = place_once file at at' a b
-  one_offset at at' (inl a) (inr b) = absurd (apart file at b.0.0 b.0.1 a b.0.2)
-  one_offset at at' (inr a) (inl b) = absurd (apart file at' a.0.0 a.0.1 b a.0.2)
-  one_offset at at' (inr a) (inr b) = a.1 ∙ sym b.1
+  once : (at to : ℕ) → IsDamagedHalf (files hot_file) at ⊎ (HasTooMany files × (at ≡ 14)) → IsDamagedHalf (files hot_file) to ⊎ (HasTooMany files × (to ≡ 14)) → at ≡ to
+  once at to (inl a) (inl b) = place_once (files hot_file) at to a b
+  once at to (inl a) (inr b) = absurd (apart (files hot_file) at b.0.0 b.0.1 a b.0.2)
+  once at to (inr a) (inl b) = absurd (apart (files hot_file) to a.0.0 a.0.1 b a.0.2)
+  once at to (inr a) (inr b) = a.1 ∙ sym b.1
+
+  pub one_offset : (f g at to : ℕ) → IsDamagedStore files f at → IsDamagedStore files g to → (f ≡ g) × (at ≡ to)
+  one_offset f g at to one other = (one.0 ∙ sym other.0, once at to one.1 other.1)
 
 -- ---- a new store
 
@@ -146,9 +143,6 @@ none_left settings = record {
   rows = omega (arith, finite_map.len-empty (slice_cmp nat_cmp) (List ℕ));
 }
 
--- which its file has
-pub made : (file : List ℕ) (settings : Settings) → IsHalf file settings (first_records settings) → (end : ℕ) × HasState file end (empty_state settings)
-made file settings half = (
-  length (spelled (bodies (first_records settings))),
-  record { settings = settings; records = first_records settings; half = half; state = none_left settings; closed = refl; ends = refl },
-)
+-- which its files have
+pub made : (files : Files) (settings : Settings) → IsHalf (files hot_file) settings (first_records settings) → HasState files (empty_state settings)
+made files settings half = record { settings = settings; records = first_records settings; half = half; state = none_left settings; closed = refl }

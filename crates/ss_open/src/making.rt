@@ -1,15 +1,14 @@
 ghost use Rattle.std.specs.Prelude.{◌≡◌, ◌^◌, ◌≤◌, Err, IsTrue, IfOk, OnOk};
-ghost use Rattle.ss_disk.specs.Disk.{Files, HasCause};
-ghost use Rattle.ss_disk.specs.Calls.{Goes};
+ghost use Rattle.ss_device.specs.Disk.{Files, HasCause};
+ghost use Rattle.ss_device.specs.Calls.{Goes};
 ghost use Rattle.ss_records.specs.Record.{SettingsFit};
-ghost use Rattle.ss_hot.specs.Half.{HasSettings};
 ghost use Rattle.ss_hot.specs.Store.{IsNew};
-ghost use Rattle.ss_open.specs.Opening.{HasNoStore, AreEmptyBeside, IsNewStore, Made, Inits, KeepsFirst, disk_of, answer_of};
+ghost use Rattle.ss_open.specs.Opening.{IsCommitted, HasNoStore, AreEmptyBeside, IsNewStore, Made, Inits, KeepsFirst, disk_of, answer_of};
 
 use crate::OpenFault;
 use crate::fault::open_fault;
 use ss_core::{PartsFault, SplitCore};
-use ss_disk::{Disk, DiskFault};
+use ss_device::{Disk, DiskFault};
 use ss_gatelog::GateLog;
 use ss_hot::{FirstRecords, HotStore};
 use ss_records::Config;
@@ -40,8 +39,8 @@ fn make<D: Disk>(alloc: Global, disk: &mut D, config: Config) -> Result<HotStore
     requires { SettingsFit config }
     ensures new { IfOk result (IsNew D.Disk disk.new config) }
     ensures images { IsTrue D.told → OnOk result (IsNewStore D.Disk disk.new config) }
-    ensures not_there { IsTrue D.told → OnOk result (HasNoStore (D.files disk.old 0)) }
-    ensures exists { result ≡ Err OpenFault.StoreExists → IsTrue D.told → (settings : _) × HasSettings (D.files disk.old 0) settings }
+    ensures not_there { IsTrue D.told → OnOk result (HasNoStore (D.files disk.old)) }
+    ensures exists { result ≡ Err OpenFault.StoreExists → IsTrue D.told → (settings : _) × IsCommitted (D.files disk.old) settings }
     ensures inits { Inits D.Disk disk.old disk.new config result }
 {
     match HotStore::is_committed(alloc, disk) {

@@ -1,10 +1,11 @@
 ghost use Rattle.std.specs.Prelude.{IsTrue};
-ghost use Rattle.ss_open.specs.Opening.{Opened, Opens};
+ghost use Rattle.ss_core.specs.StandsFor.{KeepsState};
+ghost use Rattle.ss_open.specs.Opening.{Opened, Opens, disk_of};
 
 use crate::OpenFault;
 use crate::fault::open_fault;
 use ss_core::{PartsFault, SplitCore};
-use ss_disk::Disk;
+use ss_device::Disk;
 use ss_hot::HotStore;
 use std::alloc::Global;
 
@@ -20,6 +21,7 @@ const SETTINGS_GATE: u64 = 14;
 /// fault.
 pub fn open<D: Disk>(alloc: Global, disk: D) -> Result<SplitCore<D>, (OpenFault, D)>
     ensures told { IsTrue D.told → Opened D.Disk disk result }
+    ensures keeps { IsTrue D.told → KeepsState D.Disk disk (disk_of result) }
     ensures opens { Opens disk result }
 {
     let mut disk = disk;

@@ -1,5 +1,5 @@
 -- The fields of a record's body from left to right, and the first that does not fit. A field is its value
--- and the bytes behind it; or, where there is a fault, how many bytes are left from it on: all from the
+-- and the bytes after it; or, where there is a fault, how many bytes are left from it on: all from the
 -- field on where it does not fit, and none where the body ends early or has bytes too many.
 use Rattle.std.specs.{Prelude.{ℕ, zero, suc, ◌-◌, ◌^◌, nat_lt, ◌==◌, ◌||◌, if◌then◌else◌, List, [], ◌∷◌, length, take, drop, Result, Ok, Err, ◌≡◌}, Int.{Width, w8, w16, w32, w64, byte_len, from_be_bytes}}
 use Rattle.ss_cid.specs.{Cid.{cid_len, hash_of}, declared.fault.CidFault.CidFault, Steps.{◌>>=◌}}
@@ -20,7 +20,7 @@ abbrev pub Gives : {X Y : Type 0} → (X → Y) → Result X Fault → Result Y 
 Gives view (Ok x) read = read ≡ Ok (view x)
 Gives view (Err e) read = Fails e read
 
--- an answer is what the bytes say, or the place of their fault, unless memory ran out
+-- an answer is what the bytes say, or the offset of their fault, unless memory ran out
 abbrev pub Answers : {X : Type 0} → Result X RecordFault → Result X ℕ → Type 0
 Answers (Ok x) read = read ≡ Ok x
 Answers (Err (RecordFault.BadRecord at)) read = read ≡ Err at
@@ -83,19 +83,19 @@ abbrev pub ended : {X : Type 0} → X → List ℕ → Result X ℕ
 ended x [] = Ok x
 ended x (b ∷ bytes) = Err 0
 
--- so many fields of one kind, and nothing behind them
+-- so many fields of one kind, and nothing after them
 unfoldable pub items_of : {X : Type 0} → (List ℕ → Result (X × List ℕ) ℕ) → ℕ → List ℕ → Result (List X) ℕ
 items_of item n bytes = do
   items ← items_at item n bytes
   ended items.0 items.1
 
--- a list behind its count, which is from 1 to `most`
+-- a list after its count, which is from 1 to `most`
 unfoldable pub list_of : {X : Type 0} → Width → ℕ → (List ℕ → Result (X × List ℕ) ℕ) → List ℕ → Result (List X) ℕ
 list_of w most item bytes = do
   count ← number_at w 1 most bytes
   items_of item count.0 count.1
 
--- one number of at least so much, and nothing behind it
+-- one number of at least so much, and nothing after it
 unfoldable pub number_of : ℕ → List ℕ → Result ℕ ℕ
 number_of low bytes = do
   number ← number_at w64 low (2 ^ 64 - 1) bytes
@@ -157,11 +157,11 @@ record_of (kind ∷ fields) =
     else if kind == 0x15 then as_record Record.Purged (number_of 0 fields)
     else Err (suc (length fields))
 
--- the fault's place in a body of so many bytes
+-- the fault's offset in a body of so many bytes
 abbrev pub placed : {X : Type 0} → ℕ → Result X ℕ → Result X ℕ
 placed len (Ok x) = Ok x
 placed len (Err left) = Err (len - left)
 
--- the record that a body spells, or the place of its first fault
+-- the record that a body spells, or the offset of its first fault
 unfoldable pub read_record : List ℕ → Result Record ℕ
 read_record body = placed (length body) (record_of body)

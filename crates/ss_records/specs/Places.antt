@@ -2,12 +2,12 @@
 use Rattle.std.specs.Prelude.{◌≡◌, ℕ, zero, suc, ◌+◌, ◌-◌, List, [], ◌∷◌, ◌++◌, length, map, take, drop, Result, Ok, Err}
 use Rattle.ss_records.specs.{declared.fault.RecordFault.RecordFault, declared.places.{BlockPlace.BlockPlace, PutBlocks.PutBlocks}, declared.record.Record.Record, Record.block, Fields.block_at}
 
--- the places of blocks in a row, the first of which begins here in the body: a block stands behind its CID and four bytes of length
+-- the places of blocks in a row, the first of which begins here in the body: a block stands after its CID and four bytes of length
 abbrev pub places : ℕ → List (List ℕ × List ℕ) → List BlockPlace
 places at [] = []
 places at (b ∷ bs) = record { cid = b.0; at = at + length b.0 + 4; len = length b.1 } ∷ places (at + length (block b)) bs
 
--- the places of a record's blocks: a Put has them behind its kind and their count
+-- the places of a record's blocks: a Put has them after its kind and their count
 abbrev pub places_of : Record → List BlockPlace
 places_of (Record.Put blocks) = places 3 blocks
 places_of _ = []
@@ -22,7 +22,7 @@ block_then end len others (Ok found) =
     Ok (record { cid = found.0.0; at = end - len + length found.0.0 + 4; len = length found.0.1 }) ∷ others found.1
 block_then end len others (Err left) = Err (RecordFault.BadRecord (end - left)) ∷ []
 
--- what is read of the places of so many blocks, and of nothing behind them, in a body of `end` bytes
+-- what is read of the places of so many blocks, and of nothing after them, in a body of `end` bytes
 unfoldable pub blocks_from : ℕ → ℕ → List ℕ → List (Result BlockPlace RecordFault)
 blocks_from end zero [] = []
 blocks_from end zero (b ∷ bytes) = Err (RecordFault.BadRecord end) ∷ []
@@ -37,7 +37,7 @@ abbrev pub ArePlaces : Result Record ℕ → List (Result BlockPlace RecordFault
 ArePlaces (Ok r) items = items ≡ map Ok (places_of r)
 ArePlaces (Err at) items = (front : List BlockPlace) × (items ≡ map Ok front ++ Err (RecordFault.BadRecord at) ∷ [])
 
--- a refusal carries the place of the body's fault
+-- a refusal carries the offset of the body's fault
 abbrev pub IsFaultOf : Result Record ℕ → RecordFault → Type 0
 IsFaultOf read (RecordFault.BadRecord at) = read ≡ Err at
 IsFaultOf read RecordFault.NoMemory = ⊥

@@ -11,7 +11,7 @@ number w n = to_be_bytes w n
 abbrev pub row : List (List ℕ) → List ℕ
 row cids = flat_map (λ cid. cid) cids
 
--- a block: its CID, and its bytes behind their length
+-- a block: its CID, and its bytes after their length
 abbrev pub block : List ℕ × List ℕ → List ℕ
 block b = b.0 ++ (number w32 (length b.1) ++ b.1)
 
@@ -19,7 +19,7 @@ abbrev pub mode_number : Mode → ℕ
 mode_number Mode.Discard = 0
 mode_number Mode.Universal = 1
 
--- the settings behind the format, which is 1
+-- the settings after the format, which is 1
 abbrev pub settings : Settings → List ℕ
 settings c =
     number w8 1 ++ (number w8 (mode_number c.mode) ++ (number w64 c.depth ++ (number w64 c.threshold
@@ -87,6 +87,6 @@ IsValue (Record.Sealed total) = total < 2 ^ 64
 IsValue (Record.Copied up_to) = up_to < 2 ^ 64
 IsValue (Record.Purged up_to) = up_to < 2 ^ 64
 
--- a body with four spare bytes in front of it and one behind, which a log writes its length and its gate into
+-- a body with four spare bytes before it and one after, which a log writes its length and its gate into
 abbrev pub frame : List ℕ → List ℕ
 frame body = 0 ∷ 0 ∷ 0 ∷ 0 ∷ (body ++ 0 ∷ [])

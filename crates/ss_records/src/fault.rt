@@ -7,7 +7,7 @@ use std::fmt;
 /// Why a body could not be read as a record.
 #[derive(Clone, Copy, Debug, PartialEq, Eq, Hash)]
 pub enum RecordFault {
-    /// The body is no record's spelling. `at` is the place, counted from 0, of the first byte of the first
+    /// The body is no record's spelling. `at` is the offset, counted from 0, of the first byte of the first
     /// field that does not fit; or the body's length, where it ends early or has bytes too many.
     BadRecord { at: usize },
     /// The memory for the record was not there.
@@ -26,7 +26,7 @@ impl fmt::Display for RecordFault {
 impl Error for RecordFault {}
 
 /// A fault of the bytes that a reader met, by how many of them are left from it on, so that no reader needs
-/// to know its place in the body.
+/// to know its offset in the body.
 #[derive(Clone, Copy, Debug)]
 pub(crate) struct Misfit {
     pub left: usize,
@@ -43,7 +43,7 @@ impl Misfit {
         Misfit { left: bytes.len() }
     }
 
-    /// The place of the fault in bytes of this length.
+    /// The offset of the fault in bytes of this length.
     pub(crate) fn place(self, len: usize) -> usize
         ensures { result ≡ len - self.left }
     {

@@ -1,7 +1,8 @@
-// Readers of one field each: they give its value and the bytes behind it.
+// Readers of one field each: they give its value and the bytes after it.
 
 ghost use Rattle.std.specs.Prelude.{◌≡◌, ◌≤◌, ◌+◌, length, take, drop, Err, IfOk};
 ghost use Rattle.std.specs.Int.{w8, w16, w32, w64};
+ghost use Rattle.ss_cid.specs.Cid.{hash_of, hash_named};
 ghost use Rattle.ss_records.specs.Fields.{allowed_cid_at, block_at, bytes_at, number_at, cid_at, cid_taken, ended, stored_cid_at, Reads};
 
 use crate::fault::Misfit;
@@ -79,15 +80,25 @@ fn cid_fault(fault: CidFault, bytes: &[u8]) -> Misfit
     }
 }
 
-/// A CID, which takes its own bytes of `bytes`.
+/// A CID, which takes its own bytes of `bytes`, and the hash function that it names.
+fn hashed_cid_at(bytes: &[u8]) -> Result<(Cid, HashCode), Misfit>
+    ensures value { Reads (λ x. (x.0, drop (length x.0) bytes.now)) result (cid_at bytes.now) }
+    ensures hash_code { IfOk result (λ x. x.1 ≡ hash_named (hash_of x.0)) }
+    ensures within { IfOk result (λ x. length x.0 ≤ length bytes.now) }
+{
+    match Cid::parse_hashed(bytes) {
+        Ok(found) => Ok(found),
+        Err(fault) => Err(cid_fault(fault, bytes)),
+    }
+}
+
+/// A CID.
 pub(crate) fn cid_at(bytes: &[u8]) -> Result<Cid, Misfit>
     ensures value { Reads (λ cid. (cid, drop (length cid) bytes.now)) result (cid_at bytes.now) }
     ensures within { IfOk result (λ cid. length cid ≤ length bytes.now) }
 {
-    match Cid::parse(bytes) {
-        Ok(found) => Ok(found.0),
-        Err(fault) => Err(cid_fault(fault, bytes)),
-    }
+    let (cid, _) = hashed_cid_at(bytes)?;
+    Ok(cid)
 }
 
 /// The same, and not an identity CID.
@@ -96,8 +107,8 @@ pub(crate) fn stored_cid_at(bytes: &[u8]) -> Result<Cid, Misfit>
     ensures value { Reads (λ cid. (cid, drop (length cid) bytes.now)) result (stored_cid_at bytes.now) }
     ensures within { IfOk result (λ cid. length cid ≤ length bytes.now) }
 {
-    let cid = cid_at(bytes)?;
-    if cid.hash_code() == HashCode::Identity {
+    let (cid, hash_code) = hashed_cid_at(bytes)?;
+    if hash_code == HashCode::Identity {
         return Err(Misfit::at(bytes));
     }
     Ok(cid)
@@ -132,7 +143,7 @@ pub(crate) fn ended<T: Drop>(value: T, rest: &[u8]) -> Result<T, Misfit>
     }
 }
 
-/// What stands behind a CID that `bytes` begin with.
+/// What stands after a CID that `bytes` begin with.
 pub(crate) fn behind<'a>(cid: &Cid, bytes: &'a [u8]) -> &'a [u8]
     requires { length cid.now ≤ length bytes.now }
     ensures value { result.now ≡ drop (length cid.now) bytes.now }
@@ -141,7 +152,7 @@ pub(crate) fn behind<'a>(cid: &Cid, bytes: &'a [u8]) -> &'a [u8]
     &bytes[cid.as_bytes().len()..]
 }
 
-/// A block of a Put: its CID, and how many bytes it has, which stand behind the CID and their length.
+/// A block of a Put: its CID, and how many bytes it has, which stand after the CID and their length.
 #[tactic(auto, unfolding(crate::specs::Fields::block_at, crate::specs::Fields::bytes_at))]
 pub(crate) fn block_at(bytes: &[u8]) -> Result<(Cid, u32), Misfit>
     ensures value { Reads (λ b. (
@@ -157,7 +168,7 @@ pub(crate) fn block_at(bytes: &[u8]) -> Result<(Cid, u32), Misfit>
     Ok((cid, len))
 }
 
-/// What stands behind a block's CID and the length of its bytes: its bytes, and what follows the block.
+/// What stands after a block's CID and the length of its bytes: its bytes, and what follows the block.
 pub(crate) fn content<'a>(cid: &Cid, bytes: &'a [u8]) -> &'a [u8]
     requires { length cid.now + 4 ≤ length bytes.now }
     ensures value { result.now ≡ drop 4 (drop (length cid.now) bytes.now) }

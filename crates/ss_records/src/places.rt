@@ -10,7 +10,7 @@ use ss_cid::Cid;
 pub struct BlockPlace {
     /// The block's CID.
     pub cid: Cid,
-    /// The place in the body of the first byte of its data, counted from 0.
+    /// The offset in the body of the first byte of its data, counted from 0.
     pub at: usize,
     /// How many bytes of data it has.
     pub len: u32,
@@ -19,8 +19,8 @@ pub struct BlockPlace {
 /// The blocks of a Put's body in order, each by where it lies. Its bytes are neither copied nor read, and no
 /// memory is taken.
 ///
-/// Where the body spells no record, its fault comes once, behind the blocks in front of it, and nothing
-/// after it. It is that of [`decode`](crate::decode), with its place.
+/// Where the body spells no record, its fault comes once, after the blocks before it, and nothing
+/// after it. It is that of [`decode`](crate::decode), with its offset.
 #[derive(Debug, Drop)]
 pub struct PutBlocks<'a> {
     rest: &'a [u8],
@@ -36,7 +36,7 @@ impl<'a> PutBlocks<'a> {
     ghost use Rattle.ss_records.specs.Places.{places_left, IsPut, ArePlaces, IsFaultOf};
 
     /// The blocks of a Put's body; None where the body is of another kind or has no byte. A fault of the
-    /// count is told here, and any other behind the blocks in front of it.
+    /// count is told here, and any other after the blocks before it.
     pub fn of(body: &'a [u8]) -> Result<Option<PutBlocks<'a>>, RecordFault>
         ensures kind { IfOk result (λ found. IsSome found ↔ IsPut body.now) }
         ensures places { IfOk result (λ found. IfSome found (λ blocks. ArePlaces (read_record body.now) (places_left blocks))) }
@@ -56,7 +56,7 @@ impl<'a> PutBlocks<'a> {
         }
     }
 
-    // The blocks behind their count, in a body of `end` bytes.
+    // The blocks after their count, in a body of `end` bytes.
     fn begin(fields: &'a [u8], end: usize) -> Result<PutBlocks<'a>, Misfit>
         requires { length fields.now < end }
         ensures due { IfOk result (λ blocks. number_at w16 1 4096 fields.now ≡ Ok (blocks.due, blocks.rest.now)) }

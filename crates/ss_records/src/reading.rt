@@ -15,7 +15,7 @@ use crate::record::{
 use ss_cid::{Cids, Parcel};
 use std::alloc::Global;
 
-// The readers below read the fields behind the kind, each a record of its own, or the list that is in it.
+// The readers below read the fields after the kind, each a record of its own, or the list that is in it.
 
 #[tactic(auto, unfolding(crate::specs::Fields::config_of))]
 fn config_of(fields: &[u8]) -> Result<Record, Misfit>
@@ -53,7 +53,7 @@ fn number_of(low: u64, fields: &[u8]) -> Result<u64, Misfit>
     ended(number, rest)
 }
 
-// So many CIDs, and nothing behind them.
+// So many CIDs, and nothing after them.
 fn cids_of(alloc: Global, allowed: Allowed, count: usize, fields: &[u8]) -> Result<Cids, Fault>
     ensures { Gives (λ cids. cids) result (items_of (allowed_cid_at allowed) count fields.now) }
 {
@@ -67,7 +67,7 @@ fn cids_of(alloc: Global, allowed: Allowed, count: usize, fields: &[u8]) -> Resu
     Ok(ended(cids, rest)?)
 }
 
-// The CIDs of stored blocks, behind their count.
+// The CIDs of stored blocks, after their count.
 #[tactic(auto, unfolding(crate::specs::Fields::list_of))]
 fn stored_cids(alloc: Global, fields: &[u8]) -> Result<Cids, Fault>
     ensures { Gives (λ cids. cids) result (list_of w16 4096 stored_cid_at fields.now) }
@@ -76,7 +76,7 @@ fn stored_cids(alloc: Global, fields: &[u8]) -> Result<Cids, Fault>
     cids_of(alloc, Allowed::Stored, usize::from(count), cids)
 }
 
-// The CIDs of a tipset, behind their count.
+// The CIDs of a tipset, after their count.
 #[tactic(auto, unfolding(crate::specs::Fields::list_of))]
 fn tipset_cids(alloc: Global, fields: &[u8]) -> Result<Cids, Fault>
     ensures { Gives (λ cids. cids) result (list_of w8 64 cid_at fields.now) }
@@ -113,7 +113,7 @@ fn start_of(alloc: Global, fields: &[u8]) -> Result<Record, Fault>
     Ok(Record::Start { edge, cids })
 }
 
-// So many blocks, and nothing behind them.
+// So many blocks, and nothing after them.
 fn blocks_of(alloc: Global, count: usize, fields: &[u8]) -> Result<Parcel, Fault>
     ensures { Gives (λ blocks. blocks) result (items_of block_at count fields.now) }
 {
@@ -128,7 +128,7 @@ fn blocks_of(alloc: Global, count: usize, fields: &[u8]) -> Result<Parcel, Fault
     Ok(ended(blocks, rest)?)
 }
 
-// The blocks of a Put, behind their count.
+// The blocks of a Put, after their count.
 #[tactic(auto, unfolding(crate::specs::Fields::list_of))]
 fn put_blocks(alloc: Global, fields: &[u8]) -> Result<Parcel, Fault>
     ensures { Gives (λ blocks. blocks) result (list_of w16 4096 block_at fields.now) }
@@ -159,7 +159,7 @@ fn record_of(alloc: Global, body: &[u8]) -> Result<Record, Fault>
     }
 }
 
-// The record, or the place of its fault in the body.
+// The record, or the offset of its fault in the body.
 #[tactic(auto, unfolding(crate::specs::Fields::read_record))]
 fn read(alloc: Global, body: &[u8]) -> Result<Record, RecordFault>
     ensures { Answers result (read_record body.now) }
@@ -176,12 +176,12 @@ fn read(alloc: Global, body: &[u8]) -> Result<Record, RecordFault>
 /// Reads the record that `body` spells, all of it.
 ///
 /// The fields are judged from left to right, and the first that does not fit is the fault. Where a CID is
-/// at fault, the place is that of its first byte, whatever is wrong with it; but where the bytes end in a
+/// at fault, the offset is that of its first byte, whatever is wrong with it; but where the bytes end in a
 /// field, it is the body's length. A block whose length alone is too great is at fault at that length, even
 /// where its bytes are not there.
 ///
 /// The blocks are copied into the record. Out of memory, what was read is given back to the
-/// allocator. A fault that stands behind the block or the CID that found no memory is not told.
+/// allocator. A fault that stands after the block or the CID that found no memory is not told.
 pub fn decode(alloc: Global, body: &[u8]) -> Result<Record, RecordFault>
     // What is read is a record within its bounds, and the body is its spelling.
     ensures found { IfOk result (λ r. (body.now ≡ spelling r) × IsValue r × Fits r) }

@@ -10,7 +10,7 @@ use crate::record::{
 use ss_cid::{Cid, Cids, NoMemory, Parcel};
 use std::alloc::Global;
 
-/// The spare bytes in front of a body and behind it, and its kind.
+/// The spare bytes before a body and after it, and its kind.
 const AROUND: usize = 6;
 
 // A frame up to the kind, with room for so many bytes of fields.
@@ -22,7 +22,7 @@ fn begin(alloc: Global, kind: u8, room: usize) -> Result<Vec<u8>, NoMemory>
     Ok(out)
 }
 
-// The spare byte behind the body.
+// The spare byte after the body.
 fn finish(mut out: Vec<u8>) -> Result<Vec<u8>, NoMemory>
     ensures { IfOk result (λ whole. whole.items ≡ out.items ++ 0 ∷ []) }
 {

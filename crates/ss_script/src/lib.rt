@@ -12,6 +12,7 @@
 mod call;
 mod fault;
 mod field;
+pub mod laws;
 mod line;
 mod numbers;
 mod pieces;

@@ -2,9 +2,9 @@
 use Rattle.std.proofs.Common.{◌≡◌, ◌⊎◌, inl, inr, ⊎_elim, ◌↔◌, ℕ, ◌+◌, ◌-◌, ◌<◌, ◌≤◌, refl, ◌∙◌, ap, arith}
 use Rattle.std.specs.Prelude.{Result, Err}
 use Rattle.std.proofs.lemmas.Bool.{cases_lt}
-use Rattle.ss_disk.specs.declared.disk.Disk.{Ghosts}
-use Rattle.ss_disk.specs.Disk.{Rose}
-use Rattle.ss_disk.specs.Calls.{Touches}
+use Rattle.ss_device.specs.declared.disk.Disk.{Ghosts}
+use Rattle.ss_device.specs.Disk.{Rose}
+use Rattle.ss_device.specs.Calls.{Touches}
 use Rattle.ss_gatelog.specs.declared.fault.LogFault.{LogFault as FaultOfLog}
 use Rattle.ss_gatelog.specs.declared.fault.LogFault.TheVariants as log
 use Rattle.ss_gatelog.specs.GateLog.{Log}

@@ -1,6 +1,6 @@
 -- What the append of a record does to a log and its disk, and the fault of a store by that of its log.
 use Rattle.std.specs.Prelude.{◌≡◌, ◌⊎◌, ℕ, ◌+◌, ◌-◌, ◌<◌, ◌≤◌, List, [], ◌∷◌, ◌++◌, map, Result, Err, IsOk, OnOk, OnErr}
-use Rattle.ss_disk.specs.{declared.disk.Disk.Ghosts, Calls.{Touches, Leaves}}
+use Rattle.ss_device.specs.{declared.disk.Disk.Ghosts, Calls.{Touches, Leaves}}
 use Rattle.ss_gatelog.specs.{GateLog.{CountsFault, Log, IsSure, Stands, HasEither}, declared.fault.LogFault.LogFault, declared.fault.RecordsFault.RecordsFault}
 use Rattle.ss_records.specs.{declared.record.Record.Record, Record.spelling}
 use Rattle.ss_store.specs.declared.fault.StoreFault.{StoreFault}

@@ -6,7 +6,7 @@ ghost use Rattle.ss_records.specs.Record.{frame, spelling};
 ghost use Rattle.ss_store.specs.Append.{bodies, Appends, KeepsAppended};
 
 use crate::StoreFault;
-use ss_disk::Disk;
+use ss_device::Disk;
 use ss_gatelog::GateLog;
 
 /// Appends a record by its frame to a log that is sure.

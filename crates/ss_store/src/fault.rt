@@ -72,10 +72,10 @@ impl From<NoMemory> for StoreFault {
     }
 }
 
-impl From<ss_disk::DiskFault> for StoreFault {
+impl From<ss_device::DiskFault> for StoreFault {
     ghost from_gives = { λ _ e. e ≡ fault.DiskFault };
 
-    fn from(_fault: ss_disk::DiskFault) -> Self {
+    fn from(_fault: ss_device::DiskFault) -> Self {
         StoreFault::DiskFault
     }
 }

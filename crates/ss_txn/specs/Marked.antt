@@ -2,7 +2,7 @@
 -- transaction between any two calls: tri-colour marking, in which no black block is followed to a white one; and what calls do to them.
 use Rattle.std.specs.Prelude.{◌≡◌, ℕ, Bool, List, Contains, Some, is_some, ◌≢◌, true, false, [], ◌∷◌, None, ◌↔◌, ◌≤◌, Option, option_map}
 use Rattle.ss_cid.specs.{Maps.Kept, Cid.digest_of}
-use Rattle.ss_chain.specs.{Reach.{LeadsTo, Reach}, Fetch.{is_identity, Rose}, Follows.followed}
+use Rattle.ss_chain.specs.{Reach.{LeadsTo, Reach}, Fetch.is_identity, Follows.followed}
 use Rattle.ss_marks.specs.{Marks.{MarkTable, row_of, colour_of, NoneIs, Mark, mark_of, whitened}, declared.colour.Colour.Colour}
 use Rattle.ss_txn.specs.declared.scan_reply.ScanReply.{ScanReply}
 use Rattle.std.specs.FinMap as finite_map
@@ -110,7 +110,6 @@ ScanDid edge told old new ScanReply.Scanned = Scans edge told old new
 ScanDid edge told old new ScanReply.NothingGrey = NoneIs Colour.Grey old × (new ≡ old)
 ScanDid edge told old new _ = (NoneIs Colour.Grey old → ⊥) × (new ≡ old)
 
--- the count of faults rose in a scan that answered Fault, and stayed in every other
-abbrev pub ScanCause : ℕ → ℕ → ScanReply → Type 0
-ScanCause before now ScanReply.Fault = (before ≤ now) × Rose before now
-ScanCause before now _ = now ≡ before
+-- the answer of a scan of which the blocks failed
+abbrev pub IsFault : ScanReply → Type 0
+IsFault reply = reply ≡ ScanReply.Fault

@@ -5,7 +5,8 @@ ghost use Rattle.ss_cid.specs.Maps.{Kept};
 ghost use Rattle.ss_marks.specs.declared.colour.Colour.TheVariants as colour;
 ghost use Rattle.ss_marks.specs.Marks.{row_of, colour_of, IsColoured};
 ghost use Rattle.ss_txn.specs.Marked.{HasRows, HasRowsOf, Marked, IsQuiet};
-ghost use Rattle.ss_txn.specs.Marked.{KeepsRows, Protects, Begins, Blackens, AreFollowed, ScanDid, ScanCause};
+ghost use Rattle.ss_txn.specs.Marked.{KeepsRows, Protects, Begins, Blackens, AreFollowed, ScanDid, IsFault};
+ghost use Rattle.ss_device.specs.Faults.{Counts};
 
 use crate::protecting::{protect_each, protect_followed, protect_one};
 use crate::scan_reply::ScanReply;
@@ -76,7 +77,7 @@ impl Txn {
         ensures rows { KeepsRows marks.old marks.new }
         ensures marked { (kept : Kept) (roots : List (List ℕ)) → B.told blocks.old ≡ Some kept → Marked self.old kept roots marks.old → Marked self.old kept roots marks.new }
         ensures unfetched { ((cid : List ℕ) → colour_of marks.old cid ≡ Some colour.Grey → codec_of cid ≢ 0x71) → blocks.new ≡ blocks.old }
-        ensures cause { ScanCause (B.faults blocks.old) (B.faults blocks.new) result }
+        ensures cause { Counts IsFault (B.faults blocks.old) (B.faults blocks.new) result }
         ensures edge { self.new ≡ self.old }
         ensures holds { B.holds blocks.new ≡ B.holds blocks.old }
         ensures told { B.told blocks.new ≡ B.told blocks.old }

@@ -1,19 +1,18 @@
 //! Gets.
 
 ghost use Rattle.std.specs.Prelude.{◌≡◌, ℕ, List, Some, Option, IsTrue, MatchResult, length, true, false};
-ghost use Rattle.ss_records.specs.declared.record.Record.{Record};
 ghost use Rattle.ss_model.specs.declared.call.GetReply.TheVariants as get;
 
 use super::SplitCore;
 use ss_cid::{Bytes, Cid, NoMemory};
-use ss_disk::Disk;
+use ss_device::Disk;
 use ss_model::GetReply;
 use ss_store::Place;
 use std::alloc::Global;
 
 impl<D: Disk> SplitCore<D> {
-    ghost use Rattle.ss_disk.specs.Disk.{Same};
-    ghost use Rattle.ss_disk.specs.Calls.{Goes};
+    ghost use Rattle.ss_device.specs.Disk.{Same};
+    ghost use Rattle.ss_device.specs.Calls.{Goes};
     ghost use Rattle.ss_hot.specs.Store.{LiesIn};
     ghost use Rattle.ss_model.specs.State.{State};
     ghost use Rattle.ss_model.specs.Lawful.{is_open};
@@ -21,7 +20,7 @@ impl<D: Disk> SplitCore<D> {
     ghost use Rattle.ss_model.specs.declared.call.Answer.TheVariants as answer;
     ghost use Rattle.ss_core.specs.Calls.{Steps, Makes};
     ghost use Rattle.ss_core.specs.Replies.{len_of, HasLen, LiesAt};
-    ghost use Rattle.ss_core.specs.StandsFor.{StandsFor};
+    ghost use Rattle.ss_core.specs.StandsFor.{Doubt, StandsFor};
 
     /// Reads a block. A log in doubt is settled first.
     ///
@@ -29,10 +28,10 @@ impl<D: Disk> SplitCore<D> {
     /// The disk is called only for `DiskFault` and for `Found`: memory for the block is taken before. It is never called for an
     /// identity CID, whose block is its digest.
     pub fn get(&mut self, alloc: Global, view: u32, cid: &Cid) -> GetReply
-        ensures told { IsTrue D.told → (s : State) (doubt : Option Record) → StandsFor self.old s doubt → Steps self.old self.new s doubt (call_kind.Get view cid.now) (answer.Get result) }
+        ensures told { IsTrue D.told → (s : State) (doubt : Doubt) → StandsFor self.old s doubt → Steps self.old self.new s doubt (call_kind.Get view cid.now) (answer.Get result) }
         ensures made { Makes self.old self.new (call_kind.Get view cid.now) (answer.Get result) }
         ensures reads { self.old.hot.log.unsure ≡ false → Goes D.Disk Same self.old.disk self.new.disk }
-        ensures len { HasLen (len_of self.old.hot cid.now) result }
+        ensures len { HasLen (len_of self.old cid.now) result }
     {
         if !self.views.contains(view) {
             return GetReply::BadView;
@@ -53,7 +52,7 @@ impl<D: Disk> SplitCore<D> {
     fn read_block(&mut self, place: Place, mut block: Vec<u8>) -> GetReply
         requires within { LiesIn self.old.hot.log place }
         requires len { length block.items ≡ place.len }
-        ensures told { IsTrue D.told → (s : State) (doubt : Option Record) (view : ℕ) (cid : List ℕ) → StandsFor self.old s doubt → is_open s view ≡ true → LiesAt self.old.hot cid place → Steps self.old self.new s doubt (call_kind.Get view cid) (answer.Get result) }
+        ensures told { IsTrue D.told → (s : State) (doubt : Doubt) (view : ℕ) (cid : List ℕ) → StandsFor self.old s doubt → is_open s view ≡ true → LiesAt self.old.hot cid place → Steps self.old self.new s doubt (call_kind.Get view cid) (answer.Get result) }
         ensures made { (view : ℕ) (cid : List ℕ) → LiesAt self.old.hot cid place → Makes self.old self.new (call_kind.Get view cid) (answer.Get result) }
         ensures reads { self.old.hot.log.unsure ≡ false → Goes D.Disk Same self.old.disk self.new.disk }
         ensures len { HasLen (Some place.len) result }
@@ -71,7 +70,7 @@ impl<D: Disk> SplitCore<D> {
     // A get, answered twice. Memory for the second answer is taken first.
     pub(super) fn get_twice(&mut self, alloc: Global, view: u32, cid: &Cid) -> (GetReply, GetReply)
         ensures twice { result.0 ≡ result.1 }
-        ensures told { IsTrue D.told → (s : State) (doubt : Option Record) → StandsFor self.old s doubt → Steps self.old self.new s doubt (call_kind.Get view cid.now) (answer.Get result.0) }
+        ensures told { IsTrue D.told → (s : State) (doubt : Doubt) → StandsFor self.old s doubt → Steps self.old self.new s doubt (call_kind.Get view cid.now) (answer.Get result.0) }
         ensures made { Makes self.old self.new (call_kind.Get view cid.now) (answer.Get result.0) }
     {
         if !self.views.contains(view) {

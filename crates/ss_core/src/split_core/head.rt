@@ -2,14 +2,13 @@
 
 ghost use Rattle.std.specs.Prelude.{◌≡◌, ◌⊎◌, ◌<◌, ◌≤◌, ◌^◌, true, false, [], length, Option, None, IsTrue, IfOk, IfErr, IfSome, unwrap_or};
 ghost use Rattle.ss_chain.specs.Fetch.{fetched};
-ghost use Rattle.ss_records.specs.declared.record.Record.{Record};
 ghost use Rattle.ss_model.specs.Head.{head_need};
 
 use super::{HOT, SplitCore};
 use crate::fault::head_fault;
 use crate::tipset::{FirstHeader, cids_fault};
 use ss_cid::{Bytes, Cid, Cids, NoMemory};
-use ss_disk::Disk;
+use ss_device::Disk;
 use ss_model::HeadReply;
 use std::alloc::Global;
 
@@ -23,9 +22,9 @@ impl<D: Disk> SplitCore<D> {
     ghost use Rattle.ss_model.specs.declared.call.Answer.TheVariants as answer;
     ghost use Rattle.ss_model.specs.declared.call.HeadReply.TheVariants as head;
     ghost use Rattle.ss_core.specs.Calls.{Steps, Makes};
-    ghost use Rattle.ss_core.specs.Calls.{head_effect};
+    ghost use Rattle.ss_core.specs.Calls.{head_use};
     ghost use Rattle.ss_core.specs.Replies.{OnlyReads, IsUnread, IsJudgement, IsJudged};
-    ghost use Rattle.ss_core.specs.StandsFor.{StandsFor};
+    ghost use Rattle.ss_core.specs.StandsFor.{Doubt, no_doubt, StandsFor};
 
     /// Sets a tipset as head, by one record. A log in doubt is settled first, and each block is read, one at a time.
     ///
@@ -34,7 +33,7 @@ impl<D: Disk> SplitCore<D> {
     /// `DiskFault` in writing, after which the record may be in doubt; `Set`. All refusals leave the head as it was. The disk
     /// is not called before `Absent` is decided.
     pub fn set_head(&mut self, alloc: Global, cids: &Cids) -> HeadReply
-        ensures told { IsTrue D.told → (s : State) (doubt : Option Record) → StandsFor self.old s doubt → Steps self.old self.new s doubt (call_kind.SetHead cids.now) (answer.Head result) }
+        ensures told { IsTrue D.told → (s : State) (doubt : Doubt) → StandsFor self.old s doubt → Steps self.old self.new s doubt (call_kind.SetHead cids.now) (answer.Head result) }
         ensures made { Makes self.old self.new (call_kind.SetHead cids.now) (answer.Head result) }
     {
         if let Some(refusal) = self.refuse_head(cids) {
@@ -51,7 +50,7 @@ impl<D: Disk> SplitCore<D> {
 
     // The refusal of a head before a block is read.
     fn refuse_head(&self, cids: &Cids) -> Option<HeadReply>
-        ensures decides { (s : State) (doubt : Option Record) → StandsFor self.now s doubt → result ≡ unread_refusal s.kept cids.now }
+        ensures decides { (s : State) (doubt : Doubt) → StandsFor self.now s doubt → result ≡ unread_refusal s.kept cids.now }
         ensures some { result ≡ None → (1 ≤ length cids.now) × (length cids.now ≤ 64) }
         ensures early { IfSome result IsUnread }
     {
@@ -71,7 +70,7 @@ impl<D: Disk> SplitCore<D> {
     fn judge(&mut self, alloc: Global, cids: &Cids) -> Result<u64, HeadReply>
         requires some { 1 ≤ length cids.now }
         requires few { length cids.now ≤ 64 }
-        ensures judged { IsTrue D.told → (s : State) (doubt : Option Record) → StandsFor self.old s doubt → unread_refusal s.kept cids.now ≡ None → IsJudged s.kept cids.now result }
+        ensures judged { IsTrue D.told → (s : State) (doubt : Doubt) → StandsFor self.old s doubt → unread_refusal s.kept cids.now ≡ None → IsJudged s.kept cids.now result }
         ensures judgement { IfErr result IsJudgement }
         ensures height { IfOk result (λ height. height < 2 ^ 63) }
         ensures reads { OnlyReads self.old self.new }
@@ -92,7 +91,7 @@ impl<D: Disk> SplitCore<D> {
 
     // The bytes that a CID stands for, and none where it stands for nothing.
     fn block(&mut self, alloc: Global, cid: &Cid) -> Result<Bytes, HeadReply>
-        ensures block { IsTrue D.told → (s : State) (doubt : Option Record) → StandsFor self.old s doubt → IfOk result (λ block. block ≡ unwrap_or (fetched s.kept cid.now) []) }
+        ensures block { IsTrue D.told → (s : State) (doubt : Doubt) → StandsFor self.old s doubt → IfOk result (λ block. block ≡ unwrap_or (fetched s.kept cid.now) []) }
         ensures reads { OnlyReads self.old self.new }
         ensures errors { IfErr result (λ refusal. (refusal ≡ head.NoMemory) ⊎ (refusal ≡ head.DiskFault)) }
         ensures counts { CountsFault head.DiskFault (D.faults self.old.disk) (D.faults self.new.disk) result }
@@ -114,11 +113,11 @@ impl<D: Disk> SplitCore<D> {
     fn write_head(&mut self, alloc: Global, height: u64, cids: &Cids) -> HeadReply
         requires sure { self.old.hot.log.unsure ≡ false }
         requires head { Fits (record_kind.Head height cids.now) }
-        ensures told { IsTrue D.told → (s : State) → StandsFor self.old s None → IsHead s.kept cids.now height → Steps self.old self.new s None (call_kind.SetHead cids.now) (answer.Head result) }
+        ensures told { IsTrue D.told → (s : State) → StandsFor self.old s no_doubt → IsHead s.kept cids.now height → Steps self.old self.new s no_doubt (call_kind.SetHead cids.now) (answer.Head result) }
         ensures made { Makes self.old self.new (call_kind.SetHead cids.now) (answer.Head result) }
-        ensures reaches { (s : State) → (head_effect s.kept cids.now result).reaches ≡ true }
+        ensures reaches { (head_use result).reaches ≡ true }
     {
-        // What it calls matters: by a clause of `len` each of the CIDs is one.
+        // len() proves that each CID is well formed.
         prove!(cids.len() <= 64);
         let need = head_need(cids);
         let room = self.hot.room();

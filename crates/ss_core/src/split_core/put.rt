@@ -2,14 +2,13 @@
 
 ghost use Rattle.std.specs.Prelude.{◌≡◌, ◌+◌, ◌-◌, ◌^◌, ◌≤◌, ℕ, List, length, min, max, Option, IfOk, MatchResult};
 ghost use Rattle.std.specs.FinSet as finite_set;
-ghost use Rattle.ss_records.specs.declared.record.Record.{Record};
 
 use super::{HOT, SplitCore};
 use crate::blocks::{body_bytes, check_blocks};
 use crate::fault::put_fault;
 use crate::fresh::{Fresh, Looked, fresh_blocks};
 use ss_cid::{Cid, NoMemory, Parcel};
-use ss_disk::Disk;
+use ss_device::Disk;
 use ss_model::{PUT_BLOCKS, PUT_BYTES, PutReply};
 use std::alloc::Global;
 
@@ -18,10 +17,10 @@ impl<D: Disk> SplitCore<D> {
     ghost use Rattle.ss_records.specs.Record.{Fits};
     ghost use Rattle.ss_hot.specs.Store.{AreNotHot};
     ghost use Rattle.ss_model.specs.State.{State};
-    ghost use Rattle.ss_model.specs.Lawful.{IsPassed, IsPutRefusal, body_bytes, new_pairs, put_bytes};
+    ghost use Rattle.ss_model.specs.Lawful.{IsPassed, IsPutRefusal, body_bytes, put_bytes};
     ghost use Rattle.ss_model.specs.declared.TheConstants.{PUT_BLOCKS, PUT_BYTES};
-    ghost use Rattle.ss_core.specs.Replies.{AreNoted, IsLooked, IsReady, IsRefused, Puts, cids_of, held_put_bytes};
-    ghost use Rattle.ss_core.specs.StandsFor.{StandsFor};
+    ghost use Rattle.ss_core.specs.Replies.{AreNoted, IsLooked, IsReady, IsRefused, Puts, cids_of, held_put_bytes, pairs_new_to};
+    ghost use Rattle.ss_core.specs.StandsFor.{Doubt, StandsFor};
 
     /// Stores the blocks of a parcel that are new, by one record. A log in doubt is settled first.
     ///
@@ -53,7 +52,7 @@ impl<D: Disk> SplitCore<D> {
         requires short { body_bytes fresh.now ≤ PUT_BYTES }
         requires new { AreNotHot self.old.hot fresh.now }
         requires body { body ≡ body_bytes fresh.now }
-        ensures { (view : ℕ) (pairs : List (List ℕ × List ℕ)) → ((s : State) (doubt : Option Record) → StandsFor self.old s doubt → IsPassed s view pairs × (new_pairs s.hot pairs ≡ fresh.now)) →
+        ensures { (view : ℕ) (pairs : List (List ℕ × List ℕ)) → pairs_new_to self.old pairs ≡ fresh.now → ((s : State) (doubt : Doubt) → StandsFor self.old s doubt → IsPassed s view pairs) →
             Puts self.old self.new view pairs result }
     {
         let rows = self.kept_count() + fresh.len() as u64;
@@ -79,7 +78,7 @@ impl<D: Disk> SplitCore<D> {
 
     // What a look at the pairs of a parcel tells, or the refusal of its put that the state and the parcel decide.
     fn look_or_refuse(&self, view: u32, parcel: &Parcel) -> Result<Looked, PutReply>
-        ensures decides { (s : State) (doubt : Option Record) → StandsFor self.now s doubt → MatchResult result (λ _. IsPassed s view parcel.now) (IsPutRefusal s view parcel.now) }
+        ensures decides { (s : State) (doubt : Doubt) → StandsFor self.now s doubt → MatchResult result (λ _. IsPassed s view parcel.now) (IsPutRefusal s view parcel.now) }
         ensures ready { MatchResult result (λ _. IsReady parcel.now) (IsRefused self.now view parcel.now) }
         ensures looked { IfOk result (IsLooked self.now.hot parcel.now) }
     {
@@ -103,8 +102,8 @@ impl<D: Disk> SplitCore<D> {
     fn look(&self, parcel: &Parcel) -> (u64, [bool; PUT_BLOCKS])
         requires { length parcel.now ≤ PUT_BLOCKS }
         ensures least { min (body_bytes parcel.now) (2 ^ 64 - 1) ≤ result.0 }
-        ensures held { result.0 ≡ min (held_put_bytes self.now.hot.places parcel.now) (2 ^ 64 - 1) }
-        ensures all { (s : State) (doubt : Option Record) → StandsFor self.now s doubt → result.0 ≡ min (put_bytes s.kept parcel.now) (2 ^ 64 - 1) }
+        ensures held { result.0 ≡ min (held_put_bytes self.now parcel.now) (2 ^ 64 - 1) }
+        ensures all { (s : State) (doubt : Doubt) → StandsFor self.now s doubt → result.0 ≡ min (put_bytes s.kept parcel.now) (2 ^ 64 - 1) }
         ensures own { AreNotHot self.now.hot parcel.now → result.0 ≡ min (body_bytes parcel.now) (2 ^ 64 - 1) }
         ensures kept { AreNoted (finite_set.contains (cids_of self.now.hot.places)) parcel.now result.1 }
     {

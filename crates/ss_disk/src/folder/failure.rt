@@ -5,7 +5,7 @@ use std::{fmt, io};
 pub enum FolderCall {
     /// To open the folder, or to open or make a file.
     Open,
-    /// To lock the folder.
+    /// To lock the folder, or a file.
     Lock,
     /// To tell a file's length.
     Size,
@@ -44,8 +44,11 @@ impl fmt::Display for FolderCall {
 /// Why a call of a folder disk failed.
 #[derive(Clone, Copy, Debug)]
 pub enum FolderFailure {
-    /// Another disk, of this program or of another, holds the folder's lock.
-    InUse,
+    /// Another disk, of this program or of another, holds the lock of the folder or of a file.
+    InUse {
+        /// The number of the file; none is the folder itself.
+        file: Option<u8>,
+    },
     /// The system refused a call.
     Refused {
         /// The number of the file; none is the folder itself.
@@ -60,7 +63,11 @@ pub enum FolderFailure {
 impl fmt::Display for FolderFailure {
     fn fmt<W: fmt::Write>(&self, f: &mut fmt::Formatter<W>) -> fmt::Result {
         match self {
-            FolderFailure::InUse => f.write_str("another program uses this store"),
+            FolderFailure::InUse { file: None } => f.write_str("another program uses this store"),
+            FolderFailure::InUse { file: Some(file) } => {
+                let name = file_name(*file);
+                write!(f, "{name}: another program uses this file")
+            }
             FolderFailure::Refused { file, call, error } => {
                 let name = file.map_or(".", file_name);
                 write!(f, "{name}: {call}: {error}")
@@ -69,8 +76,8 @@ impl fmt::Display for FolderFailure {
     }
 }
 
-/// The name of a file in the folder.
-pub(super) fn file_name(file: u8) -> &'static str {
+/// The name of a file in the folder, by its number.
+pub fn file_name(file: u8) -> &'static str {
     match file {
         0 => "hot-a.log",
         1 => "hot-b.log",

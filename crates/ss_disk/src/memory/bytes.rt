@@ -1,6 +1,6 @@
 // The bytes of a file in memory.
 ghost use Rattle.std.specs.Prelude.{◌≡◌, ◌≤◌, IfOk, OnOk, OnErr, length, vec_len};
-ghost use Rattle.ss_disk.specs.Disk.{Holds};
+ghost use Rattle.ss_device.specs.Disk.{Holds};
 
 use super::way::Way;
 use std::alloc::{AllocError, Global};

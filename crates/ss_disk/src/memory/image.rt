@@ -2,12 +2,12 @@
 ghost use Rattle.std.specs.Prelude.{◌≡◌, ◌≤◌, ◌<◌, ◌++◌, ℕ, List, IsTrue, IfOk, OnOk, drop, length};
 ghost use Rattle.ss_disk.specs.declared.memory.call.DeviceCall.{DeviceCall};
 ghost use Rattle.ss_disk.specs.Memory.{contents, story, read_after, MayLeave, fits, syncs, unsynced, placed, replayed, Tears};
-ghost use Rattle.ss_disk.specs.Disk.{Torn};
+ghost use Rattle.ss_device.specs.Disk.{Torn};
 
 use super::bytes::{cut_short, overwrite};
 use super::call::DeviceCall;
 use super::way::Way;
-use crate::disk::FILES;
+use ss_device::FILES;
 use std::alloc::{AllocError, Global};
 
 /// One image of all files that a crash after these calls may leave.

@@ -131,6 +131,24 @@ fn a_cursor_enters_and_skips(rt: HostRuntime) {
     assert!(rt; cursor.is_at_end() && !finds(&mut cursor, &REST));
 }
 
+// Whether a byte string with these bytes comes next.
+fn reads_blob(cursor: &mut Cursor<'_>, bytes: &[u8]) -> bool {
+    match cursor.blob() {
+        Some(read) => read == bytes,
+        None => false,
+    }
+}
+
+#[test]
+fn a_cursor_reads_one_kind_or_stays(rt: HostRuntime) {
+    let mut cursor = Cursor::new(EXAMPLES);
+    assert!(rt; cursor.uint().is_none() && cursor.array() == Some(10));
+    assert!(rt; cursor.array().is_none() && cursor.link().is_none());
+    assert!(rt; !reads_blob(&mut cursor, &[]) && cursor.uint() == Some(1000));
+    assert!(rt; cursor.uint().is_none() && skips(&mut cursor, &[0x20]));
+    assert!(rt; reads_blob(&mut cursor, &[1, 2, 3, 4]));
+}
+
 // A byte string and a text, as a writer has them.
 fn strings(alloc: Global) -> Result<Vec<u8>, Fail> {
     let mut writer = Writer::new(alloc);

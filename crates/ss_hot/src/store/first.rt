@@ -1,5 +1,5 @@
 ghost use Rattle.std.specs.Prelude.{◌≡◌, Err, IfOk};
-ghost use Rattle.ss_disk.specs.Calls.{Touches};
+ghost use Rattle.ss_device.specs.Calls.{Touches};
 ghost use Rattle.ss_gatelog.specs.GateLog.{CountsFault};
 ghost use Rattle.ss_records.specs.Record.{SettingsFit};
 ghost use Rattle.ss_store.specs.declared.fault.StoreFault.{StoreFault};
@@ -7,7 +7,7 @@ ghost use Rattle.ss_store.specs.declared.fault.StoreFault.TheVariants as fault;
 
 use super::{FILE, HotStore};
 use ss_cid::NoMemory;
-use ss_disk::Disk;
+use ss_device::Disk;
 use ss_gatelog::GateLog;
 use ss_records::{Config, Record, encode};
 use ss_store::{Index, StoreFault, append_record};

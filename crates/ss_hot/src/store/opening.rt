@@ -7,7 +7,7 @@ ghost use Rattle.ss_hot.specs.Half.{HasSettings, IsFaulty, IsDamagedHalf};
 
 use super::walk::Walk;
 use super::{FILE, HotStore};
-use ss_disk::Disk;
+use ss_device::Disk;
 use ss_gatelog::{Records, RecordsFault};
 use ss_records::Config;
 use ss_store::StoreFault;

@@ -5,7 +5,7 @@ ghost use Rattle.ss_hot.specs.Half.{hot_blocks};
 
 use super::HotStore;
 use ss_cid::{Bytes, Cid};
-use ss_disk::Disk;
+use ss_device::Disk;
 use ss_store::{Place, StoreFault};
 use std::alloc::Global;
 

@@ -1,5 +1,5 @@
 ghost use Rattle.std.specs.Prelude.{◌≡◌, ◌+◌, ◌<◌, ◌≤◌, ◌^◌, List, IsTrue, false, length, Err, IsOk, OnOk, OnErr};
-ghost use Rattle.ss_disk.specs.Calls.{Touches, Leaves};
+ghost use Rattle.ss_device.specs.Calls.{Touches, Leaves};
 ghost use Rattle.ss_gatelog.specs.GateLog.{CountsFault, HasEither};
 ghost use Rattle.ss_records.specs.declared.record.Record.{Record};
 ghost use Rattle.ss_records.specs.declared.record.Record.TheVariants as record_kind;
@@ -10,7 +10,7 @@ ghost use Rattle.ss_store.specs.declared.fault.StoreFault.TheVariants as fault;
 
 use super::HotStore;
 use ss_cid::{Cids, Parcel};
-use ss_disk::Disk;
+use ss_device::Disk;
 use ss_gatelog::HEAD;
 use ss_records::{Record, encode, encode_dropped, encode_head, encode_put};
 use ss_store::{StoreFault, append_record};

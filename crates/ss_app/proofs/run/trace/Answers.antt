@@ -14,11 +14,11 @@ returns-in-Err-open g c =
 pub returns-then-calls : goal.returns-then-calls
 returns-then-calls g c =
     let opens = c.in-Ok-open.ensures.opens in
-    let made = rw c.if-calls.true at c.make_calls-calls.ensures c.args.disk (begun_story c.args.disk c.in-Ok-open.core opens.goes c.in-Ok-open.ensures.told opens.counts opens.fits.limit) in
+    let made = rw c.if-calls.true at c.make_calls-calls.ensures c.args.disk (begun_story c.args.disk c.in-Ok-open.core opens.goes c.in-Ok-open.ensures.told opens.counts opens.fits) in
     traced_refused g.D.Disk _ _ _ _ c.in-Ok.ensures _ made refl
 
 pub returns : goal.returns
 returns g c =
     let opens = c.in-Ok-open.ensures.opens in
-    let made = rw c.if-calls.false at c.make_calls-calls.ensures c.args.disk (begun_story c.args.disk c.in-Ok-open.core opens.goes c.in-Ok-open.ensures.told opens.counts opens.fits.limit) in
+    let made = rw c.if-calls.false at c.make_calls-calls.ensures c.args.disk (begun_story c.args.disk c.in-Ok-open.core opens.goes c.in-Ok-open.ensures.told opens.counts opens.fits) in
     traced g.D.Disk _ _ _ _ c.in-Ok.ensures _ _ made c.finish.ensures

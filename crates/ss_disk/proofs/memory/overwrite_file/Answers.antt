@@ -1,6 +1,6 @@
 use Rattle.std.proofs.Common.{arith}
 use Rattle.std.proofs.lemmas.Result.{on_ok_weaker, on_err_weaker}
-use Rattle.ss_disk.specs.Disk.{Holds}
+use Rattle.ss_device.specs.Disk.{Holds}
 use Rattle.ss_disk.proofs.Stories.{changes_one, same_one}
 use Rattle.ss_disk.proofs.memory.overwrite_file.Goals as goal
 

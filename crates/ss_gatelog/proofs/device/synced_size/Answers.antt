@@ -1,8 +1,8 @@
 use Rattle.std.proofs.Common.{◌≡◌, ◌∙◌, ap}
-use Rattle.ss_disk.specs.Disk.{Files, Same}
-use Rattle.ss_disk.specs.Calls.{Goes}
-use Rattle.ss_disk.proofs.Moments.{now_from}
-use Rattle.ss_disk.proofs.Goes.{size_up, asked, then_same}
+use Rattle.ss_device.specs.Disk.{Files, Same}
+use Rattle.ss_device.specs.Calls.{Goes}
+use Rattle.ss_device.proofs.Moments.{now_from}
+use Rattle.ss_device.proofs.Goes.{size_up, asked, then_same}
 use Rattle.ss_gatelog.proofs.Logs.{on_ok}
 use Rattle.ss_gatelog.proofs.device.synced_size.Goals as goal
 

@@ -1,7 +1,7 @@
 use Rattle.std.proofs.Common.{ap, arith, length}
-use Rattle.ss_disk.specs.Disk.{Changes, Torn, Same}
-use Rattle.ss_disk.specs.Calls.{Goes}
-use Rattle.ss_disk.proofs.Goes.{raises_up, then_same}
+use Rattle.ss_device.specs.Disk.{Changes, Torn, Same}
+use Rattle.ss_device.specs.Calls.{Goes}
+use Rattle.ss_device.proofs.Goes.{raises_up, then_same}
 use Rattle.ss_gatelog.proofs.device.write_synced.Goals as goal
 
 pub returns-clause-goes : goal.returns-clause-goes

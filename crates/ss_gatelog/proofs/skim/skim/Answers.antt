@@ -1,7 +1,7 @@
 use Rattle.std.proofs.Common.{◌≡◌, ◌∙◌, subst, arith, length, take, ◌+◌}
 use Rattle.std.specs.Prelude.{slice_range}
-use Rattle.ss_disk.specs.Disk.{Files}
-use Rattle.ss_disk.proofs.Goes.{asked, then_same}
+use Rattle.ss_device.specs.Disk.{Files}
+use Rattle.ss_device.proofs.Goes.{asked, then_same}
 use Rattle.ss_gatelog.specs.Log.{IsDamaged}
 use Rattle.ss_gatelog.proofs.Pieces.{read_piece}
 use Rattle.ss_gatelog.proofs.skim.skim.Goals as goal

@@ -1,6 +1,6 @@
 use Rattle.std.proofs.Common.{◌≡◌, ◌-◌, ◌<◌, IsTrue}
-use Rattle.ss_disk.specs.Disk.{Same}
-use Rattle.ss_disk.specs.Calls.{Goes}
+use Rattle.ss_device.specs.Disk.{Same}
+use Rattle.ss_device.specs.Calls.{Goes}
 use Rattle.ss_gatelog.specs.Gate.{Walked}
 use Rattle.ss_gatelog.proofs.skim.skim.Given as goal
 

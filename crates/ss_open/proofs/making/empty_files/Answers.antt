@@ -1,5 +1,5 @@
 use Rattle.std.proofs.Common.{◌≡◌, refl, sym, ◌∙◌, arith}
-use Rattle.ss_disk.specs.Disk.{Rose}
+use Rattle.ss_device.specs.Disk.{Rose}
 use Rattle.ss_open.proofs.Makings.{created, emptied_more, first_stays, none_yet, when_ok, when_err}
 use Rattle.ss_open.proofs.making.empty_files.Goals as goal
 

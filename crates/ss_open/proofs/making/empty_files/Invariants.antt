@@ -1,7 +1,7 @@
 use Rattle.std.proofs.Common.{◌≡◌, ◌<◌, ◌≤◌, ℕ, []}
 use Rattle.std.specs.Prelude.{IsTrue}
-use Rattle.ss_disk.specs.Disk.{Files}
-use Rattle.ss_disk.specs.Calls.{Goes}
+use Rattle.ss_device.specs.Disk.{Files}
+use Rattle.ss_device.specs.Calls.{Goes}
 use Rattle.ss_gatelog.specs.Log.{HasList}
 use Rattle.ss_open.specs.Opening.{KeepsFirst}
 use Rattle.ss_open.proofs.making.empty_files.Given as goal

@@ -1,6 +1,6 @@
 use Rattle.std.proofs.Common.{◌≡◌, ⊎_elim, ℕ, [], refl, sym, ◌∙◌, ap, subst}
 use Rattle.std.specs.Prelude.{IsTrue, Err}
-use Rattle.ss_disk.specs.declared.disk.Disk.{Ghosts}
+use Rattle.ss_device.specs.declared.disk.Disk.{Ghosts}
 use Rattle.ss_records.specs.declared.record.Config.{Config as Settings}
 use Rattle.ss_store.specs.declared.fault.StoreFault.{StoreFault}
 use Rattle.ss_store.specs.declared.fault.StoreFault.TheVariants as store_fault
@@ -37,7 +37,7 @@ pub returns-in_default-clause-inits : goal.returns-in_default-clause-inits
 returns-in_default-clause-inits g c = inits_none g.D.Disk _ _ c.args.config _ tt c.is_committed.ensures.reads.goes (count_none _ _ _ (not_risen _ _ _ _ c.in-Ok-false.ensures.reads.counts) (λ is. let differ : ⊥ = cc (is) in differ))
 
 -- there is no store
-none_there : (g : Over) (c : In-Ok-false g) → IsTrue g.D.Disk.told → HasNoStore (g.D.Disk.files c.args.disk.now 0)
+none_there : (g : Over) (c : In-Ok-false g) → IsTrue g.D.Disk.told → HasNoStore (g.D.Disk.files c.args.disk.now)
 none_there g c told = rw c.in-Ok-false.field-0-test at (c.in-Ok-false.ensures.committed told)
 
 -- no failure of the disk was counted before it was emptied
@@ -60,7 +60,7 @@ returns-in-Ok-write-clause-images g c = λ told left image.
     let new = c.in-Ok-write.ensures.new in
     let half = kept_half g.D.Disk c.write.new.disk c.in-Ok-write.hot (first_records c.in-Ok.first) [] (new.keeps told) new.settled.sure left image in
     let half0 = subst (λ (n : ℕ). IsHalf (left n) c.in-Ok-write.hot.settings (first_records c.in-Ok.first)) new.settled.log.0 half in (
-      made (left 0) c.args.config (rw c.in-Ok.ensures at (rw new.settings at half0)),
+      made left c.args.config (rw c.in-Ok.ensures at (rw new.settings at half0)),
       λ file low high. empty_still g.D.Disk told c.args.config.limit c.empty_files.new.disk c.write.new.disk c.write.ensures.touches (c.in-Ok-empty_files.ensures.emptied told) left image file low high,
     )
 

@@ -13,4 +13,4 @@ returns-in-Err-clause-appended g c =
     let same : c.of_log.result ≡ of_log c.args.log.now.file c.in-Err.fault = c.of_log.ensures ∙ ap (λ (f : ℕ). of_log f c.in-Err.fault) (c.file.ensures ∙ ap (λ (l : Log). l.file) said.err) in
     subst (λ (e : StoreFault). Appends g.D.Disk c.args.disk.now c.append.new.disk c.args.log.now c.append.new.self (length c.args.framed.now) (Err e)) (sym same)
     (append_failed g.D.Disk _ _ _ _ _ said.err said.known said.touches c.in-Err.fault said.full (λ crowded. let kept = said.untouched crowded in (kept.0, kept.1))
-    (λ is. said.fault (ap (λ (e : LogFault). Err e) is)) (⊎_elim (λ is. inl (cc)) (λ same. inr same) said.no_fault) (λ at is. said.not_damaged at (ap (λ (e : LogFault). Err e) is)))
+    (λ is. said.counts.rose (ap (λ (e : LogFault). Err e) is)) (⊎_elim (λ is. inl (cc)) (λ same. inr same) said.counts.kept) (λ at is. said.not_damaged at (ap (λ (e : LogFault). Err e) is)))

@@ -17,7 +17,7 @@ pub returns-in-None-clause-block : goal.returns-in-None-clause-block
 returns-in-None-clause-block g c = λ s doubt stands. c.kept_len.ensures.block s doubt stands ∙ ap (option_map length) (sym (fetched_is s.kept c.args.cid.now c.in-None.ensures))
 
 pub returns-in-Some-clause-len : goal.returns-in-Some-clause-len
-returns-in-Some-clause-len g c = own_len c.args.self.now.hot c.args.cid.now c.in-Some.digest.now c.in-Some.ensures
+returns-in-Some-clause-len g c = own_len c.args.self.now c.args.cid.now c.in-Some.digest.now c.in-Some.ensures
 
 pub returns-in-None-clause-len : goal.returns-in-None-clause-len
-returns-in-None-clause-len g c = c.kept_len.ensures.place ∙ place_len c.args.self.now.hot c.args.cid.now c.in-None.ensures
+returns-in-None-clause-len g c = c.kept_len.ensures.place ∙ place_len c.args.self.now c.args.cid.now c.in-None.ensures

@@ -19,7 +19,7 @@ pub returns-in-Some-clause-made : goal.returns-in-Some-clause-made
 returns-in-Some-clause-made g c = digest_makes g.D.Disk c.args.self.now c.args.view c.args.cid.now c.in-Some.digest.now c.found.result c.from_slice.result c.in-Some.ensures c.found.ensures
 
 pub returns-in-Some-clause-len : goal.returns-in-Some-clause-len
-returns-in-Some-clause-len g c = digest_len c.args.self.now.hot c.args.cid.now c.in-Some.digest.now c.from_slice.result c.found.result c.in-Some.ensures c.from_slice.ensures c.found.ensures
+returns-in-Some-clause-len g c = digest_len c.args.self.now c.args.cid.now c.in-Some.digest.now c.from_slice.result c.found.result c.in-Some.ensures c.from_slice.ensures c.found.ensures
 
 pub returns-in_default-place-clause-told : goal.returns-in_default-place-clause-told
 returns-in_default-place-clause-told g c = λ told s doubt stands.

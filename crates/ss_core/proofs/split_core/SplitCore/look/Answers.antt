@@ -22,7 +22,7 @@ pub loop-i-preserved : goal.loop-i-preserved
 loop-i-preserved g c =
     let pair : List ℕ × List ℕ = (c.at-cid.result.0, c.at-cid.result.1.now) in record {
       least = least_more c.args.parcel.now c.loop-i.i pair c.loop-i.bytes c.pair_bytes.result c.saturating_add-bytes.result (2 ^ 64 - 1) c.at-cid.ensures c.loop-i.invariant.least (omega (arith, c.pair_bytes.ensures)) c.saturating_add-bytes.ensures;
-      held = held_more c.args.self.now.hot.places c.args.parcel.now c.loop-i.i pair c.loop-i.bytes c.pair_bytes.result c.saturating_add-bytes.result (2 ^ 64 - 1) c.at-cid.ensures c.loop-i.invariant.held
+      held = held_more c.args.self.now c.args.parcel.now c.loop-i.i pair c.loop-i.bytes c.pair_bytes.result c.saturating_add-bytes.result (2 ^ 64 - 1) c.at-cid.ensures c.loop-i.invariant.held
           (omega (arith, c.pair_bytes.ensures, c.unwrap_or.ensures, ap (λ o. unwrap_or o 0) c.kept_len-len.ensures.place)) c.saturating_add-bytes.ensures;
       all = λ s doubt stands. bytes_more s.kept c.args.parcel.now c.loop-i.i pair c.loop-i.bytes c.pair_bytes.result c.saturating_add-bytes.result (2 ^ 64 - 1) c.at-cid.ensures (c.loop-i.invariant.all s doubt stands)
           (omega (arith, c.pair_bytes.ensures, kept_is _ _ c.unwrap_or.result (c.kept_len-len.ensures.block s doubt stands) c.unwrap_or.ensures)) c.saturating_add-bytes.ensures;

@@ -41,7 +41,7 @@ returns-in-Ok-settle g c =
       told = λ told s doubt stands.
           let settled = c.in-Ok-settle.ensures.told told s doubt stands in
           none_stored g.D.Disk s doubt c.args.view c.args.parcel.now [] (c.in-Ok.ensures.decides s doubt stands) (new_are g.D.Disk c.args.self.now s doubt stands c.args.parcel.now ∙ none) c.args.self.now c.settle.new.self stands c.settle.ensures.same settled.stops refl settled.after;
-      made = put_stored g.D.Disk c.args.self.now c.settle.new.self (ap (λ (h : Hot). h.settings) c.settle.ensures.same) (ap (λ (h : Hot). h.log.file) c.settle.ensures.same) c.settle.ensures.touches c.args.view 0 c.args.parcel.now
+      made = put_stored g.D.Disk c.args.self.now c.settle.new.self (ap (λ (h : Hot). h.settings) c.settle.ensures.same) c.settle.ensures.touches (omega (arith, ap (λ (h : Hot). h.log.end) c.settle.ensures.same)) c.args.view 0 c.args.parcel.now
           (counted_kept _ _ _ c.in-Ok-settle.ensures.counts.kept) c.in-Ok-settle.ensures.settled;
       due = tt;
       views = c.settle.ensures.views;
@@ -57,23 +57,21 @@ returns-in-Err-settle g c =
           let settled = c.in-Err-settle.ensures.told told s doubt stands in
           not_settled g.D.Disk s doubt c.args.view c.args.parcel.now [] (c.in-Ok.ensures.decides s doubt stands) (new_are g.D.Disk c.args.self.now s doubt stands c.args.parcel.now ∙ none) c.args.self.now c.settle.new.self stands c.settle.ensures.same settled.stops
           (none_few g.D.Disk s doubt c.args.self.now stands) (omega arith) settled.after;
-      made = put_failed g.D.Disk c.args.self.now c.settle.new.self (ap (λ (h : Hot). h.settings) c.settle.ensures.same) (ap (λ (h : Hot). h.log.file) c.settle.ensures.same) c.settle.ensures.touches c.args.view c.args.parcel.now (c.in-Err-settle.ensures.counts.rose (ap Err fault));
+      made = put_failed g.D.Disk c.args.self.now c.settle.new.self (ap (λ (h : Hot). h.settings) c.settle.ensures.same) c.settle.ensures.touches (omega (arith, ap (λ (h : Hot). h.log.end) c.settle.ensures.same)) c.args.view c.args.parcel.now (c.in-Err-settle.ensures.counts.rose (ap Err fault));
       due = tt;
       views = c.settle.ensures.views;
     })
 
 pub returns-in-Ok-All : goal.returns-in-Ok-All
-returns-in-Ok-All g c = c.put_fresh.ensures c.args.view c.args.parcel.now (λ s doubt stands.
-    (c.in-Ok.ensures.decides s doubt stands, new_are g.D.Disk c.args.self.now s doubt stands c.args.parcel.now ∙ (rw c.in-Ok-All.field-0-is at (c.in-Ok-All.ensures (cids_of c.args.self.now.hot.places) c.in-Ok.ensures.looked.noted)).0))
+returns-in-Ok-All g c = c.put_fresh.ensures c.args.view c.args.parcel.now (rw c.in-Ok-All.field-0-is at (c.in-Ok-All.ensures (cids_of c.args.self.now.hot.places) c.in-Ok.ensures.looked.noted)).0 c.in-Ok.ensures.decides
 
 pub returns-in-Ok-Part : goal.returns-in-Ok-Part
-returns-in-Ok-Part g c = c.put_fresh-in-Ok-Part.ensures c.args.view c.args.parcel.now (λ s doubt stands.
-    (c.in-Ok.ensures.decides s doubt stands, new_are g.D.Disk c.args.self.now s doubt stands c.args.parcel.now ∙ (rw c.in-Ok-Part.field-0-is at (c.in-Ok-Part.ensures (cids_of c.args.self.now.hot.places) c.in-Ok.ensures.looked.noted)).0))
+returns-in-Ok-Part g c = c.put_fresh-in-Ok-Part.ensures c.args.view c.args.parcel.now (rw c.in-Ok-Part.field-0-is at (c.in-Ok-Part.ensures (cids_of c.args.self.now.hot.places) c.in-Ok.ensures.looked.noted)).0 c.in-Ok.ensures.decides
 
 pub returns-in-Err-fresh_blocks : goal.returns-in-Err-fresh_blocks
 returns-in-Err-fresh_blocks g c = record {
   told = λ _ s doubt stands. no_memory g.D.Disk s doubt c.args.view c.args.parcel.now _ (c.in-Ok.ensures.decides s doubt stands) refl c.args.self.now stands;
-  made = idle_makes g.D.Disk c.args.self.now (call.Put c.args.view c.args.parcel.now) (answer.Put put.NoMemory) refl tt refl (λ _. refl);
+  made = idle_makes g.D.Disk c.args.self.now (call.Put c.args.view c.args.parcel.now) (answer.Put put.NoMemory) refl tt refl refl;
   due = tt;
   views = refl;
 }

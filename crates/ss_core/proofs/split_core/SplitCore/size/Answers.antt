@@ -9,12 +9,12 @@ use Rattle.ss_core.proofs.split_core.SplitCore.size.Goals as goal
 
 pub returns-then-not-contains-clause-told : goal.returns-then-not-contains-clause-told
 returns-then-not-contains-clause-told g c = λ told s doubt stands.
-    idle g.D.Disk c.args.self.now c.args.self.now s doubt (call.Size c.args.view c.args.cid.now) (answer.Size size.BadView) refl refl (record { writes = refl; doubts = refl; needs = refl; settles = refl }) stands (ap (λ views. finite_set.contains views c.args.view) stands.views ∙ sym c.if-not-contains.ensures) stands
+    idle g.D.Disk c.args.self.now c.args.self.now s doubt (call.Size c.args.view c.args.cid.now) (answer.Size size.BadView) refl refl (record { settles = refl; stands = refl; roomy = refl }) stands (ap (λ views. finite_set.contains views c.args.view) stands.views ∙ sym c.if-not-contains.ensures) stands
 
 pub returns-in-Some-clause-told : goal.returns-in-Some-clause-told
 returns-in-Some-clause-told g c = λ told s doubt stands.
-    idle g.D.Disk c.args.self.now c.args.self.now s doubt (call.Size c.args.view c.args.cid.now) (answer.Size (size.Size c.in-Some.len)) refl refl (record { writes = refl; doubts = refl; needs = refl; settles = refl }) stands ((ap (λ views. finite_set.contains views c.args.view) stands.views ∙ sym c.if-not-contains.ensures), sym (c.in-Some.ensures.block s doubt stands)) stands
+    idle g.D.Disk c.args.self.now c.args.self.now s doubt (call.Size c.args.view c.args.cid.now) (answer.Size (size.Size c.in-Some.len)) refl refl (record { settles = refl; stands = refl; roomy = refl }) stands ((ap (λ views. finite_set.contains views c.args.view) stands.views ∙ sym c.if-not-contains.ensures), sym (c.in-Some.ensures.block s doubt stands)) stands
 
 pub returns-in-None-clause-told : goal.returns-in-None-clause-told
 returns-in-None-clause-told g c = λ told s doubt stands.
-    idle g.D.Disk c.args.self.now c.args.self.now s doubt (call.Size c.args.view c.args.cid.now) (answer.Size size.NotFound) refl refl (record { writes = refl; doubts = refl; needs = refl; settles = refl }) stands ((ap (λ views. finite_set.contains views c.args.view) stands.views ∙ sym c.if-not-contains.ensures), none_len _ (c.in-None.ensures.block s doubt stands)) stands
+    idle g.D.Disk c.args.self.now c.args.self.now s doubt (call.Size c.args.view c.args.cid.now) (answer.Size size.NotFound) refl refl (record { settles = refl; stands = refl; roomy = refl }) stands ((ap (λ views. finite_set.contains views c.args.view) stands.views ∙ sym c.if-not-contains.ensures), none_len _ (c.in-None.ensures.block s doubt stands)) stands

@@ -1,7 +1,9 @@
 use Rattle.std.proofs.Common.{refl, ap, inr, Err, arith}
+use Rattle.ss_hot.specs.Store.{Hot}
 use Rattle.ss_model.specs.declared.call.HeadReply.TheVariants as head
 use Rattle.ss_model.proofs.Need.{head_takes}
 use Rattle.ss_core.proofs.HeadSteps.{unchanged, judged_steps, makes, set_makes, failed_makes, full_steps, set_steps, doubted_steps}
+use Rattle.ss_core.proofs.LogFiles.{touches_hot}
 use Rattle.ss_core.proofs.Made.{never, counted_kept}
 use Rattle.ss_core.proofs.Stops.{is_stop, head_steps, head_makes, unless_disk}
 use Rattle.ss_core.proofs.split_core.SplitCore.write_head.Goals as goal
@@ -25,7 +27,7 @@ returns-in-Ok-clause-told g c = λ told s stands is_head.
     c.in-Ok.ensures.written.end c.in-Ok.ensures.written.sure (λ records keeps. (c.in-Ok.ensures.told records told keeps).kept)
 
 pub returns-in-Ok-clause-made : goal.returns-in-Ok-clause-made
-returns-in-Ok-clause-made g c = set_makes g.D.Disk c.args.cids.now c.args.self.now _ c.set_head.ensures.written.settings c.set_head.ensures.written.file c.set_head.ensures.written.touches c.args.height (counted_kept _ _ _ c.in-Ok.ensures.written.counts.kept) c.in-Ok.ensures.written.sure
+returns-in-Ok-clause-made g c = set_makes g.D.Disk c.args.cids.now c.args.self.now _ c.set_head.ensures.written.settings (touches_hot g.D.Disk _ _ _ c.args.self.now.file c.set_head.ensures.written.touches) (omega (arith, c.in-Ok.ensures.written.end, head_takes c.args.height c.args.cids.now, c.head_need-need.ensures, c.if-need-room.false, c.room-room.ensures.room)) c.args.height (counted_kept _ _ _ c.in-Ok.ensures.written.counts.kept) c.in-Ok.ensures.written.sure
 
 pub returns-in-Err-clause-told : goal.returns-in-Err-clause-told
 returns-in-Err-clause-told g c = λ told s stands is_head.
@@ -50,5 +52,5 @@ returns-in-Err-clause-made g c =
     absurd (omega (arith, head_takes c.args.height c.args.cids.now, c.head_need-need.ensures, c.if-need-room.false, c.room-room.ensures.room, full.1, full.2, full.3)))
     (λ file at is. e.ensures.written.not_damaged file at (ap Err is)))
     (λ wanting. let same = unless_disk e.fault _ wanting (e.ensures.written.untouched e.fault refl) in
-    makes g.D.Disk c.args.self.now _ (unchanged g.D.Disk c.args.self.now _ same.1 same.0 refl) c.args.cids.now c.requires.sure head.NoMemory (λ wrong. never wrong) (inr (ap g.D.Disk.faults same.1)) tt (λ s. refl))
-    (λ failed. failed_makes g.D.Disk c.args.cids.now c.args.self.now _ c.set_head.ensures.written.settings c.set_head.ensures.written.file c.set_head.ensures.written.touches (e.ensures.written.counts.rose (ap Err failed)))
+    makes g.D.Disk c.args.self.now _ (unchanged g.D.Disk c.args.self.now _ same.1 same.0 refl) c.args.cids.now c.requires.sure head.NoMemory (λ wrong. never wrong) (inr (ap g.D.Disk.faults same.1)) tt refl)
+    (λ failed. failed_makes g.D.Disk c.args.cids.now c.args.self.now _ c.set_head.ensures.written.settings (touches_hot g.D.Disk _ _ _ c.args.self.now.file c.set_head.ensures.written.touches) (omega (arith, ap (λ (h : Hot). h.log.end) e.ensures.written.err)) (e.ensures.written.counts.rose (ap Err failed)))

@@ -1,7 +1,7 @@
 use Rattle.std.proofs.Common.{◌≡◌, ◌∙◌, ap, refl, inr, ◌++◌, ◌∷◌, [], List, subst, sym}
 use Rattle.ss_disk.specs.declared.memory.call.DeviceCall.{DeviceCall}
 use Rattle.ss_disk.specs.declared.memory.call.DeviceCall.TheVariants.{Wrote}
-use Rattle.ss_disk.specs.Disk.{Changes, Holds}
+use Rattle.ss_device.specs.Disk.{Changes, Holds}
 use Rattle.ss_disk.specs.Memory.{contents, Replays}
 use Rattle.ss_disk.proofs.Stories.{replays_same, replays_wrote, has_room}
 use Rattle.ss_disk.proofs.memory.MemoryDisk.put.Goals as goal

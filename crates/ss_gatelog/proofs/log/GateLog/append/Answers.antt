@@ -1,6 +1,6 @@
 use Rattle.std.proofs.Common.{◌≡◌, ◌+◌, ◌<◌, ◌≤◌, ◌++◌, ◌∷◌, [], ℕ, length, sym, subst, arith, false}
-use Rattle.ss_disk.proofs.Goes.{touches, touches_on}
-use Rattle.ss_disk.specs.Calls.{Touches, Leaves}
+use Rattle.ss_device.proofs.Goes.{touches, touches_on}
+use Rattle.ss_device.specs.Calls.{Touches, Leaves}
 use Rattle.ss_gatelog.specs.Log.{longest_body}
 use Rattle.ss_gatelog.specs.GateLog.{Log, IsSure, HasEither, body_of}
 use Rattle.ss_gatelog.proofs.Bytes.{length-body_of}

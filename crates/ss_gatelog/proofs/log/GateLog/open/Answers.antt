@@ -1,11 +1,11 @@
 use Rattle.std.proofs.Common.{◌≡◌, sym, ap, subst, arith, ℕ, List, Err}
-use Rattle.ss_disk.specs.Disk.{Files}
+use Rattle.ss_device.specs.Disk.{Files}
 use Rattle.ss_gatelog.specs.Log.{IsDamaged, HasRecords, HasList}
 use Rattle.ss_gatelog.specs.GateLog.{Log, IsSure}
 use Rattle.ss_gatelog.specs.declared.fault.LogFault.{LogFault}
 use Rattle.ss_gatelog.specs.declared.fault.LogFault.TheVariants as fault_kinds
 use Rattle.std.proofs.lemmas.Result.{err_from_is_err_and}
-use Rattle.ss_disk.proofs.Goes.{then_same}
+use Rattle.ss_device.proofs.Goes.{then_same}
 use Rattle.ss_gatelog.proofs.Logs.{settled_on, opens_reading, opens_short, opens_list}
 use Rattle.ss_gatelog.proofs.log.GateLog.open.Goals as goal
 

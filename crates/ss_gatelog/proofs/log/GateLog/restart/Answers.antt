@@ -1,6 +1,6 @@
 use Rattle.std.proofs.Common.{[], sym, subst}
-use Rattle.ss_disk.proofs.Goes.{touches}
-use Rattle.ss_disk.specs.Calls.{Touches, Leaves}
+use Rattle.ss_device.proofs.Goes.{touches}
+use Rattle.ss_device.specs.Calls.{Touches, Leaves}
 use Rattle.ss_gatelog.specs.GateLog.{Log, IsSure, HasEither}
 use Rattle.ss_gatelog.proofs.Logs.{restart_left, restart_leaves, on_err}
 use Rattle.ss_gatelog.proofs.log.GateLog.restart.Goals as goal

@@ -1,6 +1,6 @@
 use Rattle.std.proofs.Common.{◌≡◌, ◌<◌, sym, ◌∙◌, ap, subst, true}
-use Rattle.ss_disk.proofs.Goes.{touches}
-use Rattle.ss_disk.specs.Calls.{Touches}
+use Rattle.ss_device.proofs.Goes.{touches}
+use Rattle.ss_device.specs.Calls.{Touches}
 use Rattle.ss_gatelog.specs.GateLog.{Log}
 use Rattle.ss_gatelog.proofs.Logs.{Wrote, settle_left, settle_leaves, on_err}
 use Rattle.ss_gatelog.proofs.log.GateLog.settle.Goals as goal

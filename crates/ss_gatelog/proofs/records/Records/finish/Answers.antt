@@ -1,7 +1,7 @@
 use Rattle.std.proofs.Common.{◌≡◌, ◌≤◌, ℕ, List, sym, ap, subst, arith}
 use Rattle.std.specs.Prelude.{IfOk}
-use Rattle.ss_disk.specs.Disk.{Changes, Torn}
-use Rattle.ss_disk.specs.Calls.{Goes}
+use Rattle.ss_device.specs.Disk.{Changes, Torn}
+use Rattle.ss_device.specs.Calls.{Goes}
 use Rattle.ss_gatelog.specs.GateLog.{IsSure}
 use Rattle.ss_gatelog.specs.Gate.{Reader}
 use Rattle.ss_gatelog.proofs.Readers.{lent_none, lent_short}

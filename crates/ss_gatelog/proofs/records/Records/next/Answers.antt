@@ -1,8 +1,8 @@
-use Rattle.std.proofs.Common.{◌≡◌, inl, inr, ◌-◌, ℕ, List, length, take, drop, false, true, length-drop, sym, ap, subst, arith}
+use Rattle.std.proofs.Common.{◌≡◌, ◌≤◌, inl, inr, ◌-◌, ℕ, List, length, take, drop, false, true, length-drop, sym, ap, subst, arith}
 use Rattle.std.proofs.lemmas.Result.{err_from_is_err_and}
 use Rattle.std.proofs.lemmas.List.{length-take-le}
-use Rattle.ss_disk.specs.Disk.{Files}
-use Rattle.ss_disk.proofs.Goes.{then_same}
+use Rattle.ss_device.specs.Disk.{Files}
+use Rattle.ss_device.proofs.Goes.{then_same}
 use Rattle.ss_gatelog.specs.Log.{IsDamaged}
 use Rattle.ss_gatelog.specs.Gate.{IsPiece, Reader, HasLent}
 use Rattle.ss_gatelog.proofs.Readers.{lent_on, lent_still, lent_more, lent_none, lends_fault}
@@ -85,3 +85,15 @@ returns-in_ok-cover-in-Record-clause-reaches g c =
 
 pub returns-in_ok-cover-in-Record-clause-goes : goal.returns-in_ok-cover-in-Record-clause-goes
 returns-in_ok-cover-in-Record-clause-goes g c = then_same g.D.Disk _ _ _ _ c.cover.ensures.goes c.cover-in-Record.ensures.goes
+
+pub returns-in_ok-cover-in-Record-clause-little : goal.returns-in_ok-cover-in-Record-clause-little
+returns-in_ok-cover-in-Record-clause-little g c =
+    let r = c.self.inside in
+    let window = c.cover-in-Record.new.self in
+    let held : length r.window ≤ 16842757 = c.self.invariant.5 in
+    let skipped : length c.skip.new.self ≤ 16842757 = omega (arith, held, ap (length {A = ℕ}) c.skip.ensures, length-drop r.lent r.window) in
+    let covered : length c.cover.new.self ≤ 16842757 = omega (arith, skipped, c.cover.ensures.few, c.min-header.ensures) in
+    let few : length window ≤ 16842757 = omega (arith, covered, c.cover-in-Record.ensures.few, c.in-Record.ensures.within.1) in
+    let body : length (drop 5 (take (c.in-Record.next - r.at) window)) ≡ c.in-Record.next - r.at - 5 = omega (arith, length-drop 5 (take (c.in-Record.next - r.at) window), length-take-le (c.in-Record.next - r.at) window c.in_ok-cover-in-Record.ensures.covers) in
+    let ahead : length (drop (c.in-Record.next - r.at) window) ≡ length window - (c.in-Record.next - r.at) = length-drop (c.in-Record.next - r.at) window in
+    omega (arith, few, body, ahead, c.in_ok-cover-in-Record.ensures.covers)

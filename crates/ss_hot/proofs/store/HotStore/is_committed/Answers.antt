@@ -1,7 +1,7 @@
 use Rattle.std.proofs.Common.{◌≡◌, inr, ℕ, Bool, List, refl, sym, ◌∙◌, ap, subst}
 use Rattle.std.proofs.lemmas.Result.{err_from_is_err_and}
 use Rattle.std.specs.Prelude.{Ok, Option, Some, None, MatchBool, IfSome, is_some}
-use Rattle.ss_disk.specs.Disk.{Files}
+use Rattle.ss_device.specs.Disk.{Files}
 use Rattle.ss_records.specs.declared.record.Config.{Config as Settings}
 use Rattle.ss_hot.specs.Half.{HasSettings}
 use Rattle.ss_hot.proofs.Faults.{quiet_none, quiet, quiet_on, reads_ok, reads_err}

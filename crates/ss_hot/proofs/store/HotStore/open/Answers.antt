@@ -1,7 +1,7 @@
 use Rattle.std.proofs.Common.{◌≡◌, inr, ℕ, List, sym, ◌∙◌, ap, subst}
 use Rattle.std.proofs.lemmas.Result.{err_from_is_err_and}
 use Rattle.std.specs.Prelude.{Ok, Err}
-use Rattle.ss_disk.specs.Disk.{Files}
+use Rattle.ss_device.specs.Disk.{Files}
 use Rattle.ss_store.specs.declared.fault.StoreFault.TheVariants.{Damaged}
 use Rattle.ss_hot.specs.Half.{HasSettings, IsFaulty}
 use Rattle.ss_hot.proofs.Faults.{if_some, IsQuiet, quiet_none, quiet, quiet_on, reads_ok, reads_damage, reads_err, opening_fault}

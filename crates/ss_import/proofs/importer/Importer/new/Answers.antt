@@ -26,7 +26,7 @@ returns-clause-ready g c =
       together = inl (omega (arith, ap length c.new.ensures.holds.parcel));
       bytes = c.new.ensures.bytes.0 ∙ sym (ap (sum_by pair_length) c.new.ensures.holds.parcel);
       small = subst (All IsSmall) (sym c.new.ensures.holds.parcel) (λ k d less. absurd (let no : ⊥ = omega (arith, less) in no));
-      put_bytes = c.new.ensures.bytes.1 ∙ sym (ap (held_put_bytes c.open_view.new.self.hot.places) c.new.ensures.holds.parcel);
+      put_bytes = c.new.ensures.bytes.1 ∙ sym (ap (held_put_bytes c.open_view.new.self) c.new.ensures.holds.parcel);
       fits = inl (omega (arith, ap length c.new.ensures.holds.parcel));
     }
 

@@ -16,7 +16,7 @@ put_before-requires-clause-due g c =
     let pairs = c.args.self.now.group.parcel in
     let able = group_reply core c.put.new.self c.args.self.now.view pairs c.put.result c.requires.view c.requires.together c.requires.small c.put.ensures.due in
     let why = refused_block core c.put.new.self c.args.self.now.view pairs c.put.result c.in-Err-Block.i c.in-Err-Block.fault (sym c.stored.ensures ∙ c.in-Err-Block.is ∙ ap Err c.in-Err-Block.field-0-is) able c.requires.fits c.put.ensures.due in
-    (why.within (some_of pairs (λ e. true≢false (sym (c.if-is_empty.ensures.1 e)))), subst (λ k. IsDueBlock k.hot.places pairs c.in-Err-Block.i c.in-Err-Block.fault) (sym why.same) why.due)
+    (why.within (some_of pairs (λ e. true≢false (sym (c.if-is_empty.ensures.1 e)))), subst (λ k. IsDueBlock k pairs c.in-Err-Block.i c.in-Err-Block.fault) (sym why.same) why.due)
 
 pub returns-in-Ok-clause-puts : goal.returns-in-Ok-clause-puts
 returns-in-Ok-clause-puts g c = λ was sections left p holds.
@@ -34,7 +34,7 @@ returns-in-Err-Block-clause-puts g c = λ was sections left p holds.
     let together = subst GoTogether holds.parcel c.requires.together in
     let due = subst (λ l. IsDueTo core c.put.new.self v l c.put.result) holds.parcel c.put.ensures.due in
     let able = group_reply core c.put.new.self v pairs c.put.result c.requires.view together (subst (All IsSmall) holds.parcel c.requires.small) due in
-    let fits = subst (λ l. (length l ≤ 1) ⊎ (held_put_bytes core.hot.places l ≤ PUT_BYTES)) holds.parcel c.requires.fits in
+    let fits = subst (λ l. (length l ≤ 1) ⊎ (held_put_bytes core l ≤ PUT_BYTES)) holds.parcel c.requires.fits in
     let why = refused_block core c.put.new.self v pairs c.put.result c.in-Err-Block.i c.in-Err-Block.fault (sym c.stored.ensures ∙ c.in-Err-Block.is ∙ ap Err c.in-Err-Block.field-0-is) able fits due in
     let story = story_put was core c.put.new.self v p.puts left c.args.self.now.group.parcel c.put.result holds.parcel c.put.ensures.told c.put.ensures.made p.story in
     let here = section_at left c.in-Err-Block.i (why.within (subst (λ l. 1 ≤ length l) holds.parcel (some_of c.args.self.now.group.parcel (λ e. true≢false (sym (c.if-is_empty.ensures.1 e)))))) in

@@ -35,7 +35,7 @@ returns-in-Ok-stored-clause-puts g c = λ was sections left p s holds here blame
     subst (λ imp. PutsEnded was imp sections (import.BadBlock c.args.fault c.index-offset.result.now)) (sym c.count.ensures)
     (let q = stored was _ sections left p.puts p.are_puts group (s ∷ f.0) c.put.result c.in-Ok-stored.new c.args.self.now.new_blocks p.new_is (stored_reply c.put.result c.in-Ok-stored.new (sym c.stored.ensures ∙ c.in-Ok-stored.is)) f.1 together story refl in
     blocked was _ sections (s ∷ f.0) q s f.0 c.args.fault c.index-offset.result.now refl (c.index-offset.ensures ∙ ap (λ l. slice_index_or l c.args.i c.index-offset.result.now) holds.offsets ∙ offset_at left c.args.i c.index-offset.result.now s here)
-    (still_blamed c.args.self.now.view p.puts q.puts s c.args.self.now.core.hot.places c.args.self.now.group.parcel c.args.i c.args.fault c.if-i-eq0.false c.requires.due.1 blames))
+    (still_blamed c.args.self.now.view p.puts q.puts s c.args.self.now.core c.args.self.now.group.parcel c.args.i c.args.fault c.if-i-eq0.false c.requires.due.1 blames))
 
 pub returns-in-Err-Ends-clause-puts : goal.returns-in-Err-Ends-clause-puts
 returns-in-Err-Ends-clause-puts g c = λ was sections left p s holds here blames.
@@ -52,8 +52,8 @@ unreachable-requires g c =
     let due = subst (λ l. IsDueTo c.args.self.now.core c.put.new.self c.args.self.now.view l c.put.result) c.in-Ok.ensures c.put.ensures.due in
     let able = group_reply c.args.self.now.core c.put.new.self c.args.self.now.view (take c.args.i pairs) c.put.result c.requires.ready.view (together_front pairs c.args.i c.requires.ready.together) (All-take IsSmall c.args.i pairs c.requires.ready.small) due in
     let fits = c.requires.ready.fits in
-    let why = refused_block c.args.self.now.core c.put.new.self c.args.self.now.view (take c.args.i pairs) c.put.result c.in-Err-Block.field-0-0 c.in-Err-Block.field-0-1 (sym c.stored.ensures ∙ c.in-Err-Block.is ∙ ap Err c.in-Err-Block.field-0-is) able (fits_front c.args.self.now.core.hot.places pairs c.args.i fits) due in
-    none_before c.args.self.now.core.hot.places pairs c.args.i c.args.fault c.if-i-eq0.false c.requires.due.0 c.requires.due.1 fits c.in-Err-Block.field-0-0 c.in-Err-Block.field-0-1 why.due
+    let why = refused_block c.args.self.now.core c.put.new.self c.args.self.now.view (take c.args.i pairs) c.put.result c.in-Err-Block.field-0-0 c.in-Err-Block.field-0-1 (sym c.stored.ensures ∙ c.in-Err-Block.is ∙ ap Err c.in-Err-Block.field-0-is) able (fits_front c.args.self.now.core pairs c.args.i fits) due in
+    none_before c.args.self.now.core pairs c.args.i c.args.fault c.if-i-eq0.false c.requires.due.0 c.requires.due.1 fits c.in-Err-Block.field-0-0 c.in-Err-Block.field-0-1 why.due
 
 pub returns-in-Err-Ends-clause-faults : goal.returns-in-Err-Ends-clause-faults
 returns-in-Err-Ends-clause-faults g c = λ before.

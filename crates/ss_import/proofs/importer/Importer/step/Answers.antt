@@ -59,7 +59,7 @@ pub returns-in_ok-take-in-Ok-Some-clause-step : goal.returns-in_ok-take-in-Ok-So
 returns-in_ok-take-in-Ok-Some-clause-step g c input was r =
     let found = rw c.in-Ok-Some.field-0-is at c.in-Ok-Some.ensures.found in
     let took = rw c.taken-offset.ensures at (c.in_ok-take-in-Ok-Some.ensures.takes was r.sections r.left r.putting r.holds) in
-    goes_on g.S.Source input was c.args.self.now c.take.new.self c.args.reader.now c.next.new.self r c.in-Ok-Some.cid c.in-Ok-Some.block found.0 found.1 c.next.ensures.roots c.in_ok-take-in-Ok-Some.ensures.count took
+    goes_on g.S.Source input was c.args.self.now c.take.new.self c.args.reader.now c.next.new.self r c.in-Ok-Some.cid c.in-Ok-Some.block found.0 found.1 c.next.ensures.roots c.in_ok-take-in-Ok-Some.ensures.count (omega (arith, c.taken.ensures, c.in_ok-take-in-Ok-Some.ensures.short)) took
 
 pub returns-in_ok-put-in-Ok-None-clause-step : goal.returns-in_ok-put-in-Ok-None-clause-step
 returns-in_ok-put-in-Ok-None-clause-step g c input was r =

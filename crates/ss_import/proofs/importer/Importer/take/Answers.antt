@@ -23,7 +23,7 @@ pub add-requires-clause-put_bytes : goal.add-requires-clause-put_bytes
 add-requires-clause-put_bytes g c = elim c.if-not-takes.branch [
   | then-not-takes+in_ok-put-2 w ↦
       let ready = w.in_ok-put-2.ensures.continues in
-      let three : w.put-then-not-takes.new.self.group.put_bytes ≡ 3 = ready.put_bytes ∙ ap (held_put_bytes w.put-then-not-takes.new.self.core.hot.places) w.in_ok-put-2.ensures.empty.parcel in
+      let three : w.put-then-not-takes.new.self.group.put_bytes ≡ 3 = ready.put_bytes ∙ ap (held_put_bytes w.put-then-not-takes.new.self.core) w.in_ok-put-2.ensures.empty.parcel in
       omega (arith, three, ap (λ i. i.group.put_bytes) w.self-is, c.put_bytes-put_bytes.ensures.few, c.requires.small)
   | else-not-takes w ↦ omega (arith, ap (λ i. i.group.put_bytes) w.self-is, c.put_bytes-put_bytes.ensures.few, c.requires.small, c.takes.ensures.0)
 ]

@@ -1,7 +1,7 @@
 use Rattle.std.proofs.Common.{◌≡◌, ◌+◌, ◌∷◌, [], ℕ, false, length, ap, refl, ◌∙◌, sym, arith}
 use Rattle.std.proofs.lemmas.Result.{err_from_is_err_and}
 use Rattle.std.specs.Prelude.{Result, Err}
-use Rattle.ss_disk.proofs.Goes.{touches}
+use Rattle.ss_device.proofs.Goes.{touches}
 use Rattle.ss_gatelog.specs.GateLog.{Log}
 use Rattle.ss_records.specs.declared.record.Record.TheVariants as record_kind
 use Rattle.ss_records.specs.Record.{spelling}

@@ -1,7 +1,7 @@
 use Rattle.std.proofs.Common.{◌≡◌, ◌⊎◌, inl, inr, ℕ, Bool, true, false, IsTrue, List, [], ◌∷◌, refl, sym, ◌∙◌, ap, subst, arith}
 use Rattle.std.proofs.lemmas.Result.{err_from_is_err_and}
 use Rattle.std.specs.Prelude.{Ok, Some, None, IfSome, MatchBool}
-use Rattle.ss_disk.specs.Disk.{Files}
+use Rattle.ss_device.specs.Disk.{Files}
 use Rattle.ss_gatelog.specs.Gate.{HasLent}
 use Rattle.ss_records.specs.declared.record.Config.{Config as Settings}
 use Rattle.ss_records.specs.declared.record.Record.TheVariants.{Config}

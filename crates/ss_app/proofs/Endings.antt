@@ -21,8 +21,6 @@ use Rattle.ss_app.specs.Ending.{line_of, status_of, ending_of_open}
 use Rattle.ss_history.specs.Story.{IsFulfilled, faults_in, is_refused, IsLegalFrom, IsLeft, state_behind}
 use Rattle.ss_app.specs.Outcome.{Reads, Traced, CallsMade, HasReason, CountsSource, CountsDisk, IsWhole, IsValidTrace, HavePlaceOn}
 use Rattle.ss_app.specs.World.{Says}
-use Rattle.ss_script.specs.Views.{no_views}
-use Rattle.ss_app.specs.Progress.{InOrder}
 use Rattle.ss_app.specs.World.{World}
 use Rattle.ss_app.proofs.Appending.{front_of_more, front_whole}
 use Rattle.ss_history.proofs.Fulfilled.{fulfilled, no_faults, err_or_ok}

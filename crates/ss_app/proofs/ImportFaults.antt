@@ -1,18 +1,20 @@
 -- How many faults of the disk the calls of an import met: none, unless one ended it.
-use Rattle.std.proofs.Common.{◌≡◌, ⊎_elim, ℕ, ◌+◌, Bool, false, List, [], ◌∷◌, ◌++◌, Result, Ok, Err, refl, sym, ap, ◌∙◌, arith}
+use Rattle.std.proofs.Common.{◌≡◌, ⊎_elim, ℕ, ◌+◌, Bool, false, List, [], ◌∷◌, ◌++◌, length, Result, Ok, Err, refl, sym, ap, ◌∙◌, arith}
 use Rattle.std.specs.Prelude.{if◌then◌else◌, Option}
 use Rattle.ss_car.specs.Car.{Section}
 use Rattle.ss_history.specs.Story.{faults_in}
-use Rattle.ss_import.specs.Import.{IsImport, ArePuts, IsSettled, is_stored, EndsPuts, EndsReading, EndsHead, IsLastHead, HasReason, entry}
+use Rattle.ss_import.specs.Import as spec
+use Rattle.ss_import.specs.Import.{IsImport, ArePuts, put_of, IsBlockFault, IsRefused, EndsAt, EndsPuts, no_memory, disk_fault, log_full, table_full, not_put, answered, refused_first, refused_ended, EndsReading, EndsHead, IsLastHead, HasReason, entry}
+use Rattle.ss_import.specs.declared.fault.BlockFault.{BlockFault}
+use Rattle.ss_import.specs.declared.fault.BlockFault.TheVariants as block
 use Rattle.ss_import.specs.declared.fault.ImportFault.{ImportFault}
 use Rattle.ss_import.specs.declared.fault.ImportFault.TheVariants as import
 use Rattle.ss_import.specs.declared.importer.Imported.{Imported}
 use Rattle.ss_model.specs.Lawful.{is_disk_fault}
 use Rattle.ss_model.specs.declared.call.Call.TheVariants as call
-use Rattle.ss_model.specs.declared.call.Answer.{Answer}
 use Rattle.ss_model.specs.declared.call.Answer.TheVariants as answer
 use Rattle.ss_model.specs.declared.call.ViewReply.{ViewReply}
-use Rattle.ss_model.specs.declared.call.PutReply.TheVariants as put
+use Rattle.ss_model.specs.declared.call.PutReply.{PutReply}
 use Rattle.ss_model.specs.declared.call.HeadReply.{HeadReply}
 use Rattle.ss_model.specs.declared.call.HeadReply.TheVariants as head
 use Rattle.ss_model.specs.declared.call.Entry.{Entry}
@@ -30,50 +32,43 @@ faults_of (Err (import.TableFull rows)) = 0
 faults_of (Err import.TooLong) = 0
 faults_of (Err (import.BadHead reply)) = 0
 
-settled_sound : (a : Answer) → IsSettled a → is_disk_fault a ≡ false
-settled_sound (answer.View r) settled = absurd settled
-settled_sound (answer.Close r) settled = absurd settled
-settled_sound (answer.Get r) settled = absurd settled
-settled_sound (answer.Has r) settled = absurd settled
-settled_sound (answer.Size r) settled = absurd settled
-settled_sound (answer.Head r) settled = absurd settled
-settled_sound (answer.Info r) settled = absurd settled
-settled_sound (answer.Put put.BadView) settled = absurd settled
-settled_sound (answer.Put (put.TooMany n)) settled = absurd settled
-settled_sound (answer.Put (put.TooBig n)) settled = refl
-settled_sound (answer.Put (put.TooLarge i)) settled = absurd settled
-settled_sound (answer.Put (put.UnknownHash i)) settled = refl
-settled_sound (answer.Put (put.Mismatch i)) settled = refl
-settled_sound (answer.Put (put.Malformed i kind at)) settled = refl
-settled_sound (answer.Put put.NoMemory) settled = absurd settled
-settled_sound (answer.Put (put.TableFull rows)) settled = absurd settled
-settled_sound (answer.Put (put.LogFull file need room)) settled = absurd settled
-settled_sound (answer.Put put.DiskFault) settled = absurd settled
-settled_sound (answer.Put (put.Stored new)) settled = refl
-
 puts_sound : (v : ℕ) (sections : List Section) (puts : List Entry) (left : List Section) → ArePuts v sections puts left → faults_in puts ≡ 0
 puts_sound v sections [] left are = refl
 puts_sound v sections (e ∷ puts) left are =
-    let rest = puts_sound v (if is_stored e.answer then are.1 else sections) puts left are.5 in
-    let this : ◌≡◌ {A = ℕ} (if is_disk_fault e.answer then 1 else 0) 0 = ap (λ b. if b then 1 else 0) (settled_sound e.answer are.4) in
+    let rest = puts_sound v are.1 puts left are.6 in
+    let this : ◌≡◌ {A = ℕ} (if is_disk_fault e.answer then 1 else 0) 0 = ap (λ (x : Entry). if is_disk_fault x.answer then 1 else 0) are.5 in
     omega (arith, this, rest)
 
 faults_behind : (h more : List Entry) → faults_in (h ++ more) ≡ faults_in h + faults_in more
 faults_behind [] more = omega arith
 faults_behind (e ∷ h) more = let rest = faults_behind h more in omega (arith, rest)
 
-module _ (v : ℕ) (puts : List Entry) (left : List Section) (last : List Entry) where
-  put_last : (fault : ImportFault) → EndsPuts v puts left last fault → faults_in last ≡ faults_of (Err fault)
-  put_last import.NoMemory ends = ⊎_elim (λ none. ap faults_in none) (λ p. ap faults_in p.4) ends
-  put_last import.DiskFault ends = ap faults_in ends.4
-  put_last (import.LogFull file need room) ends = ap faults_in ends.4
-  put_last (import.TableFull rows) ends = ap faults_in ends.4
-  put_last (import.BadBlock fault offset) ends = ap faults_in ends.0
-  put_last import.ReadFault ends = absurd ends
-  put_last (import.BadCar fault offset) ends = absurd ends
-  put_last import.TooLong ends = absurd ends
-  put_last (import.BadHead reply) ends = absurd ends
+-- a put that is refused for a block met no fault
+refusal_sound : (group : List Section) (i : ℕ) (x : Section) (fault : BlockFault) (reply : PutReply) → IsBlockFault group i x fault reply → is_disk_fault (answer.Put reply) ≡ false
+refusal_sound group i x block.TooLarge reply b = ap (λ r. is_disk_fault (answer.Put r)) b.2
+refusal_sound group i x block.UnknownHash reply b = ap (λ r. is_disk_fault (answer.Put r)) b.0
+refusal_sound group i x block.Mismatch reply b = ap (λ r. is_disk_fault (answer.Put r)) b.0
+refusal_sound group i x block.Malformed reply b = ap (λ r. is_disk_fault (answer.Put r)) b.2
 
+refused_none : (v : ℕ) (group front : List Section) (x : Section) (fault : BlockFault) (reply : PutReply) (more : List Entry) → IsRefused group front x fault reply → faults_in (put_of v group reply ∷ more) ≡ faults_in more
+refused_none v group front x fault reply more r =
+    let this : ◌≡◌ {A = ℕ} (if is_disk_fault (answer.Put reply) then 1 else 0) 0 = ap (λ b. if b then 1 else 0) (refusal_sound group (length front) x fault reply r.blames) in
+    omega (arith, this)
+
+at_last : (v : ℕ) (group : List Section) (last : List Entry) (fault : ImportFault) → EndsAt v group last fault → faults_in last ≡ faults_of (Err fault)
+at_last v group _ _ not_put = refl
+at_last v group _ _ (answered _ _ together no_memory) = refl
+at_last v group _ _ (answered _ _ together disk_fault) = refl
+at_last v group _ _ (answered _ _ together (log_full file need room)) = refl
+at_last v group _ _ (answered _ _ together (table_full rows)) = refl
+
+put_last : (v : ℕ) (left : List Section) (last : List Entry) (fault : ImportFault) → EndsPuts v left last fault → faults_in last ≡ faults_of (Err fault)
+put_last v left _ _ (spec.EndsPuts.ended at) = at_last v left _ _ at
+put_last v left _ _ (refused_first x bad reply r) = refused_none v left [] x bad reply [] r
+put_last v left _ _ (spec.EndsPuts.refused front x bad reply new r group) = refused_none v left front x bad reply (put_of v front (PutReply.Stored new) ∷ []) r
+put_last v left _ _ (refused_ended front x bad reply r some at) = refused_none v left front x bad reply _ r ∙ at_last v front _ _ at
+
+module _ (v : ℕ) (puts : List Entry) (left : List Section) (last : List Entry) where
   reading_last : (input : Option (List ℕ)) (roots : List (List ℕ)) (sections : List Section) (fault : ImportFault) → last ≡ [] → EndsReading input roots sections left fault → faults_in last ≡ faults_of (Err fault)
   reading_last input roots sections import.NoMemory none ends = ap faults_in none
   reading_last input roots sections import.ReadFault none ends = ap faults_in none
@@ -101,7 +96,7 @@ module _ (v : ℕ) (puts : List Entry) (left : List Section) (last : List Entry)
   reason_last : (wants : Bool) (input : Option (List ℕ)) (roots : List (List ℕ)) (sections : List Section) (outcome : Result Imported ImportFault) → HasReason wants input roots sections left v puts last outcome → faults_in last ≡ faults_of outcome
   reason_last wants input roots sections (Ok done) reason = ⊎_elim (λ none. ap faults_in none.1) (λ set. ap faults_in set.2) reason.4
   reason_last wants input roots sections (Err fault) reason =
-      ⊎_elim (put_last fault) (⊎_elim (λ reading. reading_last input roots sections fault reading.0 reading.1) (λ h. head_last roots fault h.3 h.4 h.5)) reason
+      ⊎_elim (put_last v left last fault) (⊎_elim (λ reading. reading_last input roots sections fault reading.0 reading.1) (λ h. head_last roots fault h.3 h.4 h.5)) reason
 
 -- the calls of an import met just the faults of the disk that its outcome tells
 pub import_faults : {Did : List Entry → Type 0} {wants : Bool} {input : Option (List ℕ)} {outcome : Result Imported ImportFault} (i : IsImport Did wants input outcome)

@@ -1,7 +1,9 @@
 -- Runs of `import` and `info` whose store was opened.
 use Rattle.std.proofs.Common.{◌≡◌, ◌⊎◌, inl, inr, ⊎_elim, ℕ, Bool, List, [], ◌∷◌, ◌++◌, Option, Some, Result, Ok, Err, refl, ap, ◌∙◌, subst}
-use Rattle.std.specs.Prelude.{IsTrue, IsOk}
+use Rattle.std.specs.Prelude.{IsTrue, IsOk, OnOk}
+use Rattle.std.specs.Io.KnownBytes.{IsAtEnd}
 use Rattle.ss_car.specs.Car.{Section}
+use Rattle.ss_device.specs.Faults.{CountsFault}
 use Rattle.ss_device.specs.declared.disk.Disk.{Ghosts}
 use Rattle.ss_model.specs.State.{State}
 use Rattle.ss_model.specs.Lawful.{Legal}
@@ -17,7 +19,7 @@ use Rattle.ss_history.specs.Story.{Story, IsHistory, IsLegalFrom, HavePlace, Are
 use Rattle.ss_history.proofs.Fulfilled.{no_faults}
 use Rattle.ss_history.proofs.Stories.{history_of}
 use Rattle.ss_open.specs.Opening.{Opened, Opens}
-use Rattle.ss_import.specs.Import.{IsImport, CountsSource, AreRead, HasReason, entry, entries_of, IsFull}
+use Rattle.ss_import.specs.Import.{IsImport, AreRead, HasReason, entry, entries_of, IsFull}
 use Rattle.ss_import.proofs.Complete.{complete, not_full}
 use Rattle.ss_import.proofs.Small.{state_small}
 use Rattle.ss_import.specs.declared.importer.Imported.{Imported}
@@ -75,7 +77,7 @@ unless_full {Did = Did} {wants = wants} {input = input} s (Err fault) i legal pl
     inr (⊎_elim (λ memory. e.1 ∙ ap Err memory) (λ full. absurd (not_full Did wants input s fault i legal place none (subst IsFull same full))) e.2)
 
 module _ {D : Type 0} (disk : Ghosts D) (old new : World D) (wants : Bool) (outcome : Result Imported ImportFault)
-    (imports : IsImport (λ h. IsHistory disk old.disk new.disk h × AreCounted (disk.faults old.disk) (disk.faults new.disk) h) wants old.source.left outcome) (source : CountsSource old.source.faults new.source.faults outcome)
+    (imports : IsImport (λ h. IsHistory disk old.disk new.disk h × AreCounted (disk.faults old.disk) (disk.faults new.disk) h) wants old.source.left outcome) (source : CountsFault import.ReadFault old.source.faults new.source.faults outcome)
     (bytes : List ℕ) (roots : List (List ℕ)) (sections : List Section) (valid : IsValidImport wants disk old new bytes roots sections) where
   legal_from : IsLegalFrom (disk.files old.disk) (entries_of imports)
   legal_from = ⊎_elim (λ none. absurd (some_entries _ _ none)) (λ l. l.0) (imports.did.0.legal valid.tells)
@@ -86,17 +88,17 @@ module _ {D : Type 0} (disk : Ghosts D) (old new : World D) (wants : Bool) (outc
   pub comes_to : IsOk outcome ⊎ ((fault : ImportFault) × (outcome ≡ Err fault) × ((fault ≡ import.NoMemory) ⊎ IsFull fault))
   unfolding of_bytes legal_from none_failed
   comes_to = complete _ wants bytes roots sections legal_from.state outcome (of_bytes old.source.left bytes valid.told imports) (valid.importable legal_from.state legal_from.stands) (state_small _ legal_from.state legal_from.stands) legal_from.legal none_failed
-      (λ is. valid.source (subst (CountsSource old.source.faults new.source.faults) is source))
+      (λ is. valid.source (source.rose is))
 
   pub placed : HavePlaceOn (disk.files old.disk) (entries_of imports) → IsOk outcome ⊎ (outcome ≡ Err import.NoMemory)
   placed place = unless_full legal_from.state outcome imports legal_from.legal (place legal_from.state legal_from.stands) none_failed comes_to
 
 module _ {D : Type 0} (disk : Ghosts D) (old new : World D) (status : ℕ) (core : SplitCore D disk) where
   pub import_ran : (wants : Bool) (outcome : Result Imported ImportFault) (ending : Ending) → ending ≡ ending_of_outcome outcome → core.disk ≡ new.disk → IsImport (Story old.disk core) wants old.source.left outcome
-      → CountsSource old.source.faults new.source.faults outcome → Says old.sink new.sink (line_of ending) (status_of ending) status → ImportRan wants disk old new status
-  import_ran wants outcome ending ends back imports source said = record {
+      → CountsFault import.ReadFault old.source.faults new.source.faults outcome → OnOk outcome (IsAtEnd new.source.left) → Says old.sink new.sink (line_of ending) (status_of ending) status → ImportRan wants disk old new status
+  import_ran wants outcome ending ends back imports source ended said = record {
     ending = ending;
-    reason = inr (record { outcome = outcome; ends = ends; imports = seen; source = source; complete = λ bytes roots sections valid place. placed disk old new wants outcome seen source bytes roots sections valid place });
+    reason = inr (record { outcome = outcome; ends = ends; imports = seen; source = source; ended = ended; complete = λ bytes roots sections valid place. placed disk old new wants outcome seen source bytes roots sections valid place });
     said = said;
   }
     where

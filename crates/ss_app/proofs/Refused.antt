@@ -2,6 +2,7 @@
 use Rattle.std.proofs.Common.{◌≡◌, ◌⊎◌, inl, inr, ⊎_elim, ℕ, min, ◌+◌, ◌-◌, ◌^◌, ◌<◌, ◌≤◌, Bool, List, [], Some, Result, Ok, Err, refl, sym, ap, ◌∙◌, subst, arith}
 use Rattle.std.specs.Prelude.{IsTrue}
 use Rattle.ss_device.specs.Disk.{Rose}
+use Rattle.ss_device.specs.Faults.{CountsFault}
 use Rattle.ss_device.specs.declared.disk.Disk.{Ghosts}
 use Rattle.ss_records.specs.declared.record.Config.{Config as Settings}
 use Rattle.ss_device.specs.Disk.{Files}
@@ -14,7 +15,7 @@ use Rattle.ss_app.specs.Ending.{status_of, ending_of_open, ending_of_outcome}
 use Rattle.ss_open.specs.Opening.{IsCommitted, HasNoStore, IsDamagedStore, Opens}
 use Rattle.ss_open.specs.declared.fault.OpenFault.{OpenFault}
 use Rattle.ss_open.specs.declared.fault.OpenFault.TheVariants as opening
-use Rattle.ss_import.specs.Import.{CountsSource as SourceOfImport}
+use Rattle.ss_import.proofs.Counted.{quiet_import}
 use Rattle.ss_import.specs.declared.importer.Imported.{Imported}
 use Rattle.ss_import.specs.declared.fault.ImportFault.{ImportFault}
 use Rattle.ss_import.specs.declared.fault.ImportFault.TheVariants as import
@@ -240,18 +241,21 @@ module _ {D : Type 0} (disk : Ghosts D) (old new : World D) where
   blames_open opening.DiskFault source opens = record { never = λ is. cc; read = λ is. absurd (cc); source = inr (ap (λ i. i.faults) source); store = λ is. opens.counts; sound = inr (inr (inl refl)) }
   blames_open opening.NoMemory source opens = record { never = λ is. cc; read = λ is. absurd (cc); source = inr (ap (λ i. i.faults) source); store = λ is. absurd (cc); sound = inr (inl refl) }
 
+  sound_source : (outcome : Result Imported ImportFault) → CountsFault import.ReadFault old.source.faults new.source.faults outcome → (outcome ≡ Err import.ReadFault → ⊥) → new.source.faults ≡ old.source.faults
+  sound_source outcome source none = quiet_import old.source.faults new.source.faults outcome source none
+
   -- an import met these faults of the disk, and told them
-  blames_import : (outcome : Result Imported ImportFault) (h : List Entry) → AreCounted (disk.faults old.disk) (disk.faults new.disk) h → faults_in h ≡ faults_of outcome → SourceOfImport old.source.faults new.source.faults outcome → Blames disk old new (status_of (ending_of_outcome outcome))
-  blames_import (Ok done) h counted met source = record { never = λ is. cc; read = λ is. absurd (cc); source = inr source; store = λ is. absurd (cc); sound = inl refl }
-  blames_import (Err import.NoMemory) h counted met source = record { never = λ is. cc; read = λ is. absurd (cc); source = inr source; store = λ is. absurd (cc); sound = inr (inl refl) }
-  blames_import (Err import.ReadFault) h counted met source = record { never = λ is. cc; read = λ is. source; source = inl refl; store = λ is. absurd (cc); sound = inr (inr (inr (counted.none met))) }
-  blames_import (Err import.DiskFault) h counted met source = record { never = λ is. cc; read = λ is. absurd (cc); source = inr source; store = λ is. one_rose _ _ (faults_in h) met counted.enough; sound = inr (inr (inl refl)) }
-  blames_import (Err (import.BadCar fault offset)) h counted met source = blames_none disk old new 10 (λ is. cc) (λ is. cc) (λ is. cc) source (counted.none met)
-  blames_import (Err (import.BadBlock fault offset)) h counted met source = blames_none disk old new 10 (λ is. cc) (λ is. cc) (λ is. cc) source (counted.none met)
-  blames_import (Err (import.LogFull file need room)) h counted met source = blames_none disk old new 11 (λ is. cc) (λ is. cc) (λ is. cc) source (counted.none met)
-  blames_import (Err (import.TableFull rows)) h counted met source = blames_none disk old new 12 (λ is. cc) (λ is. cc) (λ is. cc) source (counted.none met)
-  blames_import (Err import.TooLong) h counted met source = blames_none disk old new 13 (λ is. cc) (λ is. cc) (λ is. cc) source (counted.none met)
-  blames_import (Err (import.BadHead reply)) h counted met source = blames_none disk old new 16 (λ is. cc) (λ is. cc) (λ is. cc) source (counted.none met)
+  blames_import : (outcome : Result Imported ImportFault) (h : List Entry) → AreCounted (disk.faults old.disk) (disk.faults new.disk) h → faults_in h ≡ faults_of outcome → CountsFault import.ReadFault old.source.faults new.source.faults outcome → Blames disk old new (status_of (ending_of_outcome outcome))
+  blames_import (Ok done) h counted met source = record { never = λ is. cc; read = λ is. absurd (cc); source = inr (sound_source _ source (λ failed. cc)); store = λ is. absurd (cc); sound = inl refl }
+  blames_import (Err import.NoMemory) h counted met source = record { never = λ is. cc; read = λ is. absurd (cc); source = inr (sound_source _ source (λ failed. cc)); store = λ is. absurd (cc); sound = inr (inl refl) }
+  blames_import (Err import.ReadFault) h counted met source = record { never = λ is. cc; read = λ is. source.rose refl; source = inl refl; store = λ is. absurd (cc); sound = inr (inr (inr (counted.none met))) }
+  blames_import (Err import.DiskFault) h counted met source = record { never = λ is. cc; read = λ is. absurd (cc); source = inr (sound_source _ source (λ failed. cc)); store = λ is. one_rose _ _ (faults_in h) met counted.enough; sound = inr (inr (inl refl)) }
+  blames_import (Err (import.BadCar fault offset)) h counted met source = blames_none disk old new 10 (λ is. cc) (λ is. cc) (λ is. cc) (sound_source _ source (λ failed. cc)) (counted.none met)
+  blames_import (Err (import.BadBlock fault offset)) h counted met source = blames_none disk old new 10 (λ is. cc) (λ is. cc) (λ is. cc) (sound_source _ source (λ failed. cc)) (counted.none met)
+  blames_import (Err (import.LogFull file need room)) h counted met source = blames_none disk old new 11 (λ is. cc) (λ is. cc) (λ is. cc) (sound_source _ source (λ failed. cc)) (counted.none met)
+  blames_import (Err (import.TableFull rows)) h counted met source = blames_none disk old new 12 (λ is. cc) (λ is. cc) (λ is. cc) (sound_source _ source (λ failed. cc)) (counted.none met)
+  blames_import (Err import.TooLong) h counted met source = blames_none disk old new 13 (λ is. cc) (λ is. cc) (λ is. cc) (sound_source _ source (λ failed. cc)) (counted.none met)
+  blames_import (Err (import.BadHead reply)) h counted met source = blames_none disk old new 16 (λ is. cc) (λ is. cc) (λ is. cc) (sound_source _ source (λ failed. cc)) (counted.none met)
 
   not_opened : (ending : Ending) → IsNotOpened disk old new ending → Blames disk old new (status_of ending)
   not_opened ending n = subst (λ e. Blames disk old new (status_of e)) (sym n.ends) (blames_open n.fault n.source n.opens)

@@ -4,17 +4,17 @@
 -- the front. What is written is what was printed of the history and then the line of the ending, and the status is the ending's.
 -- Where the sink failed the status is 5, and a prefix of these bytes is written; all else stands. The other commands have an ending
 -- alone.
-use Rattle.std.specs.{Prelude.{◌≡◌, ◌⊎◌, ℕ, Bool, true, false, ◌<◌, ◌≤◌, List, [], ◌++◌, length, codes, Option, Some, Result, Ok, Err, IsOk, IsErr, IsTrue}, Option.ForSome, Io.KnownBytes.{Appends, IsAtEnd}}
-use Rattle.ss_device.specs.{declared.disk.Disk.Ghosts, Disk.{Files, Same, Rose}, Calls.Goes}
+use Rattle.std.specs.{Prelude.{◌≡◌, ◌⊎◌, ℕ, Bool, true, false, ◌<◌, ◌≤◌, List, [], ◌++◌, length, codes, Option, Some, Result, Ok, Err, IsOk, IsErr, IsTrue, OnOk}, Option.ForSome, Io.KnownBytes.{Appends, IsAtEnd}}
+use Rattle.ss_device.specs.{declared.disk.Disk.Ghosts, Disk.{Files, Same, Rose}, Faults.CountsFault, Calls.Goes}
 use Rattle.ss_records.specs.declared.record.Config.{Config as Settings}
-use Rattle.ss_model.specs.{State.State, Lawful.{Legal, info_of}, declared.call.{Entry.Entry, Info.Info as StoreInfo}}
+use Rattle.ss_model.specs.{State.State, Lawful.{info_of}, declared.call.{Entry.Entry, Info.Info as StoreInfo}}
 use Rattle.ss_core.specs.{LogFiles.hot_file, StandsFor.{HasState, KeepsState}}
 use Rattle.ss_open.specs.{Opening.{IsCommitted, HasNoStore, IsDamagedStore, IsNewStore, EmptiesFirst, Opened, Opens}, declared.fault.OpenFault.OpenFault}
 use Rattle.ss_script.specs.{declared.{TheConstants.CLIENTS, line.Line.Line, fault.ScriptFault.TheVariants.Bad}, Script.script_of, Text.text, Views.no_views}
 use Rattle.ss_app.specs.{declared.{TheConstants.SCRIPT_BYTES, help.TheConstants.{HELP, VERSION}, words.Command.{Command, TheVariants.{Init, Trace, Import, Info, Help, Version}}, ending.Ending.{Ending, TheVariants.{Done, Usage, NoMemory, ReadFault, DiskFault, NoStore, StoreExists, Damaged, BadScript, TooLong, Informed}}}, Ending.{status_of, line_of, ending_of_open, ending_of_outcome}, World.{IsTooLong, Input, Output, World, Says}, Progress.InOrder}
 use Rattle.ss_history.specs.Story.{AreCounted, HavePlace, IsFulfilled, HasStore, IsHistory}
 use Rattle.ss_car.specs.Car.{Section}
-use Rattle.ss_import.specs.{Import.{IsImport, entries_of, CountsSource as CountsImport, IsImportable}, declared.{importer.Imported.Imported, fault.ImportFault.ImportFault}}
+use Rattle.ss_import.specs.{Import.{IsImport, entries_of, IsImportable}, declared.{importer.Imported.Imported, fault.ImportFault.ImportFault}}
 
 -- the script is no longer than it may be, and asks for these lines
 abbrev pub AsksFor : List ℕ → List Line → Type 0
@@ -151,7 +151,8 @@ pub record IsImported {D : Type 0} (wants : Bool) (disk : Ghosts D) (old new : W
   pub outcome : Result Imported ImportFault
   pub ends : ending ≡ ending_of_outcome outcome
   pub imports : IsImport (λ h. IsHistory disk old.disk new.disk h × AreCounted (disk.faults old.disk) (disk.faults new.disk) h) wants old.source.left outcome
-  pub source : CountsImport old.source.faults new.source.faults outcome
+  pub source : CountsFault ImportFault.ReadFault old.source.faults new.source.faults outcome
+  pub ended : OnOk outcome (IsAtEnd new.source.left)
   pub complete : (bytes : List ℕ) (roots : List (List ℕ)) (sections : List Section) → IsValidImport wants disk old new bytes roots sections → HavePlaceOn (disk.files old.disk) (entries_of imports) → IsOk outcome ⊎ (outcome ≡ Err ImportFault.NoMemory)
 
 -- what the store counts that the disk had; no file changed

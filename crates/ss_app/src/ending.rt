@@ -1,7 +1,6 @@
 //! How a run ends: its status, and the line that tells why.
 
 ghost use Rattle.std.specs.Prelude.{◌≡◌, [], ◌∷◌, ◌++◌, codes};
-ghost use Rattle.ss_io.specs.Streams.{HasCause, PutAppends};
 ghost use Rattle.ss_script.specs.Text.{numbers_text, head_reply_text, height_text, Writes};
 ghost use Rattle.ss_app.specs.Ending.{status_of, line_of, ending_of_outcome, import_status, import_line, imported_text, informed_text};
 
@@ -120,8 +119,7 @@ impl Ending {
 
     /// Writes the line that tells why, if the ending has one.
     pub fn put_line<K: Sink>(self, sink: &mut K) -> Result<(), Failed>
-        ensures bytes { PutAppends (K.written sink.old) (K.written sink.new) result (line_of self) }
-        ensures cause { HasCause (K.faults sink.old) (K.faults sink.new) result }
+        ensures { Writes K.Sink sink.old sink.new result (line_of self) }
     {
         match self {
             Ending::Done => Ok(()),
@@ -148,8 +146,7 @@ impl Ending {
 
 // Writes a label, and then each number behind a space, as one line.
 fn put_numbers_line<K: Sink>(sink: &mut K, label: &[u8], numbers: &[u64]) -> Result<(), Failed>
-    ensures bytes { PutAppends (K.written sink.old) (K.written sink.new) result (label.now ++ (numbers_text numbers.now ++ codes "\n")) }
-    ensures cause { HasCause (K.faults sink.old) (K.faults sink.new) result }
+    ensures { Writes K.Sink sink.old sink.new result (label.now ++ (numbers_text numbers.now ++ codes "\n")) }
 {
     put_numbers(sink, label, numbers)?;
     sink.put(b"\n")
@@ -173,8 +170,7 @@ fn import_status(fault: ImportFault) -> u8
 
 // Writes why an import ended before its CAR did.
 fn put_import_fault<K: Sink>(sink: &mut K, fault: ImportFault) -> Result<(), Failed>
-    ensures bytes { PutAppends (K.written sink.old) (K.written sink.new) result (import_line fault) }
-    ensures cause { HasCause (K.faults sink.old) (K.faults sink.new) result }
+    ensures { Writes K.Sink sink.old sink.new result (import_line fault) }
 {
     match fault {
         ImportFault::NoMemory => sink.put(b"error: no memory\n"),
@@ -192,15 +188,13 @@ fn put_import_fault<K: Sink>(sink: &mut K, fault: ImportFault) -> Result<(), Fai
 }
 
 fn put_bad_car<K: Sink>(sink: &mut K, number: u8, offset: u64) -> Result<(), Failed>
-    ensures bytes { PutAppends (K.written sink.old) (K.written sink.new) result (codes "error: car" ++ (numbers_text (number ∷ offset ∷ []) ++ codes "\n")) }
-    ensures cause { HasCause (K.faults sink.old) (K.faults sink.new) result }
+    ensures { Writes K.Sink sink.old sink.new result (codes "error: car" ++ (numbers_text (number ∷ offset ∷ []) ++ codes "\n")) }
 {
     put_numbers_line(sink, b"error: car", &[u64::from(number), offset])
 }
 
 fn put_bad_head<K: Sink>(sink: &mut K, reply: HeadReply) -> Result<(), Failed>
-    ensures bytes { PutAppends (K.written sink.old) (K.written sink.new) result (codes "error: head " ++ (head_reply_text reply ++ codes "\n")) }
-    ensures cause { HasCause (K.faults sink.old) (K.faults sink.new) result }
+    ensures { Writes K.Sink sink.old sink.new result (codes "error: head " ++ (head_reply_text reply ++ codes "\n")) }
 {
     sink.put(b"error: head ")?;
     put_head_reply(sink, reply)?;
@@ -209,8 +203,7 @@ fn put_bad_head<K: Sink>(sink: &mut K, reply: HeadReply) -> Result<(), Failed>
 
 // Writes how many sections and new blocks a CAR had, and the height of the head that was set.
 fn put_imported<K: Sink>(sink: &mut K, imported: Imported) -> Result<(), Failed>
-    ensures bytes { PutAppends (K.written sink.old) (K.written sink.new) result (imported_text imported) }
-    ensures cause { HasCause (K.faults sink.old) (K.faults sink.new) result }
+    ensures { Writes K.Sink sink.old sink.new result (imported_text imported) }
 {
     put_numbers(sink, b"imported", &[imported.sections])?;
     put_numbers(sink, b" new", &[imported.new])?;
@@ -230,8 +223,7 @@ fn put_height<K: Sink>(sink: &mut K, height: Option<u64>) -> Result<(), Failed>
 
 // Writes the settings of a store, and what it counts.
 fn put_informed<K: Sink>(sink: &mut K, info: &Info) -> Result<(), Failed>
-    ensures bytes { PutAppends (K.written sink.old) (K.written sink.new) result (informed_text info.now) }
-    ensures cause { HasCause (K.faults sink.old) (K.faults sink.new) result }
+    ensures { Writes K.Sink sink.old sink.new result (informed_text info.now) }
 {
     put_settings(sink, &info.config)?;
     sink.put(b"\n")?;

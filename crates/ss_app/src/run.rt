@@ -1,14 +1,13 @@
 //! A run of the program, over any source, sink and disk.
 
-ghost use Rattle.std.specs.Prelude.{◌≡◌, ◌⊎◌, ◌∷◌, ◌++◌, ◌+◌, ◌^◌, ◌<◌, [], ℕ, Bool, List, false, map, Ok, IsErr, IsTrue, Option, Some, string_bytes};
+ghost use Rattle.std.specs.Prelude.{◌≡◌, ◌⊎◌, ◌∷◌, ◌++◌, ◌+◌, ◌^◌, ◌<◌, [], ℕ, Bool, List, false, map, Ok, IsErr, IsTrue, Some, string_bytes};
 ghost use Rattle.ss_car.specs.Car.{Section};
 ghost use Rattle.ss_records.specs.declared.record.Config.{Config as Settings};
 ghost use Rattle.ss_records.specs.Record.{SettingsFit};
-ghost use Rattle.ss_io.specs.Streams.{HasCause, PutAppends};
 ghost use Rattle.ss_model.specs.State.{State};
 ghost use Rattle.ss_model.specs.declared.call.Entry.{Entry};
 ghost use Rattle.ss_script.specs.declared.line.Line.{Line};
-ghost use Rattle.ss_script.specs.Text.{entry_text};
+ghost use Rattle.ss_script.specs.Text.{Writes, entry_text};
 ghost use Rattle.ss_script.specs.Views.{client_views, resolved};
 ghost use Rattle.ss_core.specs.Calls.{Steps, Makes};
 ghost use Rattle.ss_core.specs.StandsFor.{Doubt, StandsFor};
@@ -157,8 +156,7 @@ pub(crate) fn finish<K: Sink>(sink: &mut K, ending: Ending) -> u8
 }
 
 fn put_ending<K: Sink>(sink: &mut K, ending: Ending) -> Result<(), Failed>
-    ensures bytes { PutAppends (K.written sink.old) (K.written sink.new) result (line_of ending) }
-    ensures cause { HasCause (K.faults sink.old) (K.faults sink.new) result }
+    ensures { Writes K.Sink sink.old sink.new result (line_of ending) }
 {
     ending.put_line(sink)?;
     sink.flush()
@@ -251,7 +249,7 @@ fn make_call<D: Disk>(alloc: Global, core: &mut SplitCore<D>, views: &Views, lin
 }
 
 // What came of the calls: how they ended, whether the sink refused a line, and the disk.
-#[derive(Debug, Drop)]
+#[derive(Drop)]
 struct Calls<D> {
     ending: Ending,
     refused: bool,

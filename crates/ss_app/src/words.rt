@@ -20,7 +20,7 @@ const DEFAULT_THRESHOLD: u64 = 4500;
 const DEFAULT_BATCH: u32 = 256;
 
 /// What the words of the command line ask for.
-#[derive(Clone, Copy, Debug, PartialEq, Eq)]
+#[derive(Clone, Copy, PartialEq, Eq)]
 pub(crate) enum Command {
     /// To make a store of these settings.
     Init(Config),
@@ -111,7 +111,7 @@ fn read_settings(words: &[String]) -> Result<Settings, usize>
 }
 
 // A key of `init`.
-#[derive(Clone, Copy, Debug, PartialEq, Eq)]
+#[derive(Clone, Copy, PartialEq, Eq)]
 enum Key {
     Mode,
     Depth,
@@ -142,7 +142,7 @@ impl Key {
 }
 
 // What the words of `init` set; at first nothing.
-#[derive(Clone, Copy, Debug, Default, PartialEq, Eq)]
+#[derive(Clone, Copy, Default, PartialEq, Eq)]
 struct Settings {
     mode: Option<Mode>,
     depth: Option<u64>,

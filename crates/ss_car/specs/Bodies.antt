@@ -1,8 +1,8 @@
 -- What is taken from an input that exposes its bytes, what is wrong with the bytes that a length counts, and a reader as its caller sees it.
-use Rattle.std.specs.{Prelude.{◌≡◌, ℕ, ◌<◌, ◌^◌, List, [], ◌++◌, length, Option, Some, None, Err, ⊤, ◌∷◌, MatchOption, Result, MatchResult, ◌+◌, ◌≤◌, slice_index_or}, Io.KnownBytes.{Keeps, Consumes, IsAtEnd}, Option.ForSome}
+use Rattle.std.specs.{Prelude.{◌≡◌, ℕ, ◌<◌, ◌^◌, List, [], ◌++◌, length, Option, Some, None, Err, ⊤, ◌∷◌, MatchOption, Result, IsErrAnd, ◌+◌, ◌≤◌, slice_index_or}, Io.KnownBytes.{Keeps, Consumes, IsAtEnd}, Option.ForSome}
 use Rattle.ss_cid.specs.{Cid.cid_at, declared.fault.CidFault.CidFault}
 use Rattle.ss_car.specs.{Car.{framed, IsHeader, IsStart, IsSection, SectionFault}, declared.fault.CarFault.CarFault, declared.fault.CarRefusal.CarRefusal, declared.reader.CarReader.CarReader}
-use Rattle.ss_io.specs.{Streams.Rose, declared.source.Source.Ghosts as Source, declared.buffered.Buffered.Buffered, Buffered.{before, buffered_of}}
+use Rattle.ss_io.specs.{declared.source.Source.Ghosts as Source, declared.buffered.Buffered.Buffered, Buffered.{before, buffered_of}}
 
 -- the input begins with a header with these roots, of so many bytes with its length, which were taken
 pub record TakesStart (old new : Option (List ℕ)) (roots : List (List ℕ)) (taken : ℕ) : Type 0 where
@@ -18,7 +18,7 @@ pub record TakesSection (old new : Option (List ℕ)) (cid block : List ℕ) : T
 
 -- The next section was taken, with its CID, its data and the count of its bytes, or the input has ended.
 abbrev pub TakesNext : Option (List ℕ) → Option (List ℕ) → Option (List ℕ × List ℕ × ℕ) → Type 0
-TakesNext old new None = IsAtEnd old × Keeps old new
+TakesNext old new None = IsAtEnd old × Keeps old new × IsAtEnd new
 TakesNext old new (Some (cid, block, count)) = TakesSection old new cid block × (count ≡ length (framed (cid ++ block))) × (count < 2 ^ 32)
 
 -- bytes are left, and they begin with no section
@@ -50,13 +50,9 @@ Blames holds left fault = ForSome left (λ bytes. holds bytes fault)
 abbrev pub TakesByte : Option (List ℕ) → Option (List ℕ) → Option ℕ → Type 0
 TakesByte old new found = MatchOption found (Keeps old new × IsAtEnd new) (λ byte. Consumes old new (byte ∷ []))
 
--- the source's count of faults rose where it is what failed, and stayed for every other fault
-abbrev pub FaultHasCause : ℕ → ℕ → CarFault → Type 0
-FaultHasCause before now CarFault.ReadFault = Rose before now
-FaultHasCause before now _ = now ≡ before
-
-abbrev pub HasCause : {X : Type 0} → ℕ → ℕ → Result X CarFault → Type 0
-HasCause before now result = MatchResult result (λ _. now ≡ before) (FaultHasCause before now)
+-- the fault is that the source failed
+abbrev pub IsReadFault : CarFault → Type 0
+IsReadFault fault = fault ≡ CarFault.ReadFault
 
 -- ---- the bytes of a length as they come
 
@@ -98,10 +94,11 @@ input_place source r = place_of source r.source
 
 -- The next section was given, and the count of bytes rose by its own, or the input had ended.
 abbrev pub GivesNext : {S : Type 0} → Source S → CarReader S → CarReader S → Option (List ℕ × List ℕ) → Type 0
-GivesNext source old new None = IsAtEnd (input_left source old) × Keeps (input_left source old) (input_left source new) × (taken_of new ≡ taken_of old)
+GivesNext source old new None =
+    IsAtEnd (input_left source old) × Keeps (input_left source old) (input_left source new) × IsAtEnd (input_left source new) × (taken_of new ≡ taken_of old)
 GivesNext source old new (Some (cid, block)) =
     TakesSection (input_left source old) (input_left source new) cid block × (taken_of new ≡ taken_of old + length (framed (cid ++ block)))
 
--- the source's count of faults rose where it is what failed, and stayed in every other case
-abbrev pub RefusalHasCause : {X : Type 0} → ℕ → ℕ → Result X CarRefusal → Type 0
-RefusalHasCause before now result = MatchResult result (λ _. now ≡ before) (λ refusal. FaultHasCause before now refusal.fault)
+-- the result is a refusal because the source failed
+abbrev pub BlamesSource : {X : Type 0} → Result X CarRefusal → Type 0
+BlamesSource result = IsErrAnd result (λ refusal. IsReadFault refusal.fault)

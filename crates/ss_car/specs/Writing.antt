@@ -1,5 +1,5 @@
 -- What a writer of CARs makes, and how a write ends.
-use Rattle.std.specs.{Prelude.{◌≡◌, ℕ, ◌+◌, ◌≤◌, List, [], ◌∷◌, ◌++◌, length, codes, Option, Result, Ok, Err}, List.flat_map, Io.KnownBytes.{Keeps, Appends}}
+use Rattle.std.specs.{Prelude.{ℕ, ◌+◌, ◌≤◌, List, [], ◌∷◌, ◌++◌, length, codes, Option, Result, Ok, Err}, List.flat_map, Io.KnownBytes.{Keeps, Appends}}
 use Rattle.ss_cbor.specs.Item.{head}
 use Rattle.ss_cid.specs.Cid.{IsCid}
 use Rattle.ss_io.specs.Streams.{AppendsFront}

@@ -9,7 +9,7 @@ use std::error::Error;
 use std::fmt;
 
 /// What is wrong with a CAR, or why it was not read.
-#[derive(Clone, Copy, Debug, PartialEq, Eq, Hash)]
+#[derive(Clone, Copy, Debug, PartialEq, Eq)]
 pub enum CarFault {
     /// The source failed.
     ReadFault,
@@ -81,7 +81,7 @@ impl fmt::Display for CarFault {
 impl Error for CarFault {}
 
 /// The first refusal of a CAR.
-#[derive(Clone, Copy, Debug, PartialEq, Eq, Hash)]
+#[derive(Clone, Copy, Debug, PartialEq, Eq)]
 pub struct CarRefusal {
     /// What is wrong.
     pub fault: CarFault,
@@ -132,7 +132,7 @@ impl From<NoMemory> for CarFault {
 }
 
 /// Why a header or a section was not written.
-#[derive(Clone, Copy, Debug, PartialEq, Eq, Hash)]
+#[derive(Clone, Copy, Debug, PartialEq, Eq)]
 pub enum CarWriteFault {
     /// The sink failed.
     WriteFault,

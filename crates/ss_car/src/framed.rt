@@ -3,9 +3,10 @@ ghost use Rattle.std.specs.Prelude.{◌≡◌, ℕ, ◌+◌, ◌<◌, ◌≤◌,
 ghost use Rattle.std.specs.Io.KnownBytes.{Consumes};
 ghost use Rattle.ss_cid.specs.Varint.{varint, varint_at};
 ghost use Rattle.ss_cid.specs.declared.fault.CidFault.TheVariants.{LongVarint};
-ghost use Rattle.ss_io.specs.Streams.{HasCause as HasCallCause};
+ghost use Rattle.ss_io.specs.Streams.{HasCause};
+ghost use Rattle.ss_device.specs.Faults.{CountsFault};
 ghost use Rattle.ss_car.specs.Car.{framed, LengthFault, UnframedFault};
-ghost use Rattle.ss_car.specs.Bodies.{left_of, faults_of, place_of, EndsOnce, Blames, TakesByte, HasCause};
+ghost use Rattle.ss_car.specs.Bodies.{left_of, faults_of, place_of, EndsOnce, Blames, TakesByte};
 
 use crate::fault::CarFault;
 use ss_cid::{CidFault, read_varint};
@@ -26,7 +27,7 @@ pub fn next_framed<S: Source + Drop>(
     ensures taken { IfOk result (λ found. Consumes (left_of S.Source source.old) (left_of S.Source source.new) (framed found.0.items)) }
     ensures count { IfOk result (λ found. (found.1 ≡ length (framed found.0.items)) × (length found.0.items ≤ limit) × (found.1 < 2 ^ 32)) }
     ensures refused { IfErr result (Blames (UnframedFault limit) (left_of S.Source source.old)) }
-    ensures cause { HasCause (faults_of S.Source source.old) (faults_of S.Source source.new) result }
+    ensures cause { CountsFault CarFault.ReadFault (faults_of S.Source source.old) (faults_of S.Source source.new) result }
     ensures place { place_of S.Source source.new ≡ place_of S.Source source.old }
 {
     let (len, count) = next_length(source)?;
@@ -46,7 +47,7 @@ fn next_bytes<S: Source + Drop>(
     ensures taken { IfOk result (λ bytes. Consumes (left_of S.Source source.old) (left_of S.Source source.new) bytes.items) }
     ensures len { IfOk result (λ bytes. length bytes.items ≡ len) }
     ensures refused { IfErr result (Blames (λ bytes fault. (fault ≡ CarFault.Truncated) × (length bytes < len)) (left_of S.Source source.old)) }
-    ensures cause { HasCause (faults_of S.Source source.old) (faults_of S.Source source.new) result }
+    ensures cause { CountsFault CarFault.ReadFault (faults_of S.Source source.old) (faults_of S.Source source.new) result }
     ensures place { place_of S.Source source.new ≡ place_of S.Source source.old }
 {
     let mut bytes = Vec::with_capacity(alloc, len)?;
@@ -68,7 +69,7 @@ fn next_length<S: Source + Drop>(source: &mut Buffered<S>) -> Result<(u64, u64),
     ensures taken { IfOk result (λ found. Consumes (left_of S.Source source.old) (left_of S.Source source.new) (varint found.0)) }
     ensures count { IfOk result (λ found. (found.0 < 2 ^ 63) × (found.1 ≡ length (varint found.0)) × (found.1 ≤ 9)) }
     ensures refused { IfErr result (Blames LengthFault (left_of S.Source source.old)) }
-    ensures cause { HasCause (faults_of S.Source source.old) (faults_of S.Source source.new) result }
+    ensures cause { CountsFault CarFault.ReadFault (faults_of S.Source source.old) (faults_of S.Source source.new) result }
     ensures place { place_of S.Source source.new ≡ place_of S.Source source.old }
 {
     let mut bytes = [0; MAX_LENGTH];
@@ -100,7 +101,7 @@ fn length_of(bytes: &[u8]) -> Result<(u64, u64), CarFault>
 // Reads a byte; None is the end of the input.
 fn next_byte<S: Source + Drop>(source: &mut Buffered<S>) -> Result<Option<u8>, Failed>
     ensures taken { IfOk result (TakesByte (left_of S.Source source.old) (left_of S.Source source.new)) }
-    ensures cause { HasCallCause (faults_of S.Source source.old) (faults_of S.Source source.new) result }
+    ensures cause { HasCause (faults_of S.Source source.old) (faults_of S.Source source.new) result }
     ensures place { place_of S.Source source.new ≡ place_of S.Source source.old }
 {
     source.fill()?;

@@ -1,6 +1,8 @@
 //! Reading a CAR section by section.
 ghost use Rattle.std.specs.Prelude.{◌≡◌, ◌<◌, ◌^◌, Some, None, Err, IfOk, IfErr, OnOk, OnErr};
-ghost use Rattle.ss_car.specs.Bodies.{NextFault, TakesStart, Blames, FaultHasCause, roots_of, taken_of, refusal_of, input_left, input_faults, input_place, GivesNext, RefusalHasCause};
+ghost use Rattle.std.specs.Io.KnownBytes.{IsAtEnd};
+ghost use Rattle.ss_device.specs.Faults.{Counts};
+ghost use Rattle.ss_car.specs.Bodies.{NextFault, TakesStart, Blames, IsReadFault, roots_of, taken_of, refusal_of, input_left, input_faults, input_place, GivesNext, BlamesSource};
 ghost use Rattle.ss_car.specs.Car.{StartFault};
 ghost use Rattle.ss_car.specs.declared.fault.CarRefusal.{CarRefusal};
 
@@ -27,7 +29,7 @@ impl<S: Source + Drop> CarReader<S> {
         ensures fresh { IfOk result (λ reader. refusal_of reader ≡ None) }
         ensures refused { IfErr result (λ (refusal, _). (refusal.offset ≡ 0) × Blames StartFault (S.left source) refusal.fault) }
         ensures no_fault { IfOk result (λ reader. input_faults S.Source reader ≡ S.faults source) }
-        ensures cause { IfErr result (λ (refusal, back). FaultHasCause (S.faults source) (S.faults back) refusal.fault) }
+        ensures cause { IfErr result (λ (refusal, back). Counts IsReadFault (S.faults source) (S.faults back) refusal.fault) }
         ensures place { IfOk result (λ reader. input_place S.Source reader ≡ S.place source) }
         ensures place_back { IfErr result (λ (_, back). S.place back ≡ S.place source) }
     {
@@ -46,8 +48,10 @@ impl<S: Source + Drop> CarReader<S> {
         }
     }
 
-    /// The source, of which up to 65,536 bytes more may have been taken than were given.
+    /// The source, of which up to 65,536 bytes more may have been taken than were given. Once the input has ended it is at its
+    /// end.
     pub fn into_source(self) -> S
+        ensures left { IsAtEnd (input_left S.Source self) → IsAtEnd (S.left result) }
         ensures faults { S.faults result ≡ input_faults S.Source self }
         ensures place { S.place result ≡ input_place S.Source self }
     {
@@ -76,7 +80,7 @@ impl<S: Source + Drop> CarReader<S> {
         requires { taken_of self.old < 2 ^ 62 }
         ensures found { IfOk result (GivesNext S.Source self.old self.new) }
         ensures refused { IfErr result (λ refusal. refusal_of self.old ≡ None → (refusal.offset ≡ taken_of self.old) × Blames NextFault (input_left S.Source self.old) refusal.fault) }
-        ensures cause { refusal_of self.old ≡ None → RefusalHasCause (input_faults S.Source self.old) (input_faults S.Source self.new) result }
+        ensures cause { refusal_of self.old ≡ None → Counts BlamesSource (input_faults S.Source self.old) (input_faults S.Source self.new) result }
         ensures kept { IfErr result (λ refusal. refusal_of self.new ≡ Some refusal) }
         ensures again { (refusal : CarRefusal) → refusal_of self.old ≡ Some refusal → (result ≡ Err refusal) × (self.new ≡ self.old) }
         ensures fresh { OnOk result (refusal_of self.new ≡ None) }

@@ -1,7 +1,8 @@
 //! Reading the header or a section from the start of a source.
 ghost use Rattle.std.specs.Prelude.{◌≡◌, ◌<◌, ◌≤◌, ◌^◌, ◌++◌, length, drop, IfOk, IfErr};
 ghost use Rattle.ss_cid.specs.Cid.{IsCid};
-ghost use Rattle.ss_car.specs.Bodies.{BodyFault, NextFault, TakesStart, TakesSection, TakesNext, Blames, HasCause, left_of, faults_of, place_of};
+ghost use Rattle.ss_device.specs.Faults.{CountsFault};
+ghost use Rattle.ss_car.specs.Bodies.{BodyFault, NextFault, TakesStart, TakesSection, TakesNext, Blames, left_of, faults_of, place_of};
 ghost use Rattle.ss_car.specs.Car.{framed, StartFault, SectionFault};
 
 use crate::fault::CarFault;
@@ -25,7 +26,7 @@ pub fn next_start<S: Source + Drop>(
     ensures taken { IfOk result (λ found. TakesStart (left_of S.Source source.old) (left_of S.Source source.new) found.0 found.1) }
     ensures few { IfOk result (λ found. found.1 < 2 ^ 32) }
     ensures refused { IfErr result (Blames StartFault (left_of S.Source source.old)) }
-    ensures cause { HasCause (faults_of S.Source source.old) (faults_of S.Source source.new) result }
+    ensures cause { CountsFault CarFault.ReadFault (faults_of S.Source source.old) (faults_of S.Source source.new) result }
     ensures place { place_of S.Source source.new ≡ place_of S.Source source.old }
 {
     let (header, count) = next_framed(alloc, source, MAX_HEADER)?;
@@ -40,7 +41,7 @@ pub fn next_or_end<S: Source + Drop>(
 ) -> Result<Option<(Cid, Bytes, u64)>, CarFault>
     ensures found { IfOk result (TakesNext (left_of S.Source source.old) (left_of S.Source source.new)) }
     ensures refused { IfErr result (Blames NextFault (left_of S.Source source.old)) }
-    ensures cause { HasCause (faults_of S.Source source.old) (faults_of S.Source source.new) result }
+    ensures cause { CountsFault CarFault.ReadFault (faults_of S.Source source.old) (faults_of S.Source source.new) result }
     ensures place { place_of S.Source source.new ≡ place_of S.Source source.old }
 {
     source.fill()?;
@@ -59,7 +60,7 @@ fn next_section<S: Source + Drop>(
     ensures taken { IfOk result (λ found. TakesSection (left_of S.Source source.old) (left_of S.Source source.new) found.0 found.1) }
     ensures count { IfOk result (λ found. (found.2 ≡ length (framed (found.0 ++ found.1))) × (found.2 < 2 ^ 32)) }
     ensures refused { IfErr result (Blames SectionFault (left_of S.Source source.old)) }
-    ensures cause { HasCause (faults_of S.Source source.old) (faults_of S.Source source.new) result }
+    ensures cause { CountsFault CarFault.ReadFault (faults_of S.Source source.old) (faults_of S.Source source.new) result }
     ensures place { place_of S.Source source.new ≡ place_of S.Source source.old }
 {
     let (body, count) = next_framed(alloc, source, MAX_SECTION)?;

@@ -6,7 +6,7 @@ use std::error::Error;
 use std::fmt;
 
 /// What is wrong with bytes that are no item. The numbers are those that the program prints.
-#[derive(Clone, Copy, Debug, PartialEq, Eq, Hash)]
+#[derive(Clone, Copy, Debug, PartialEq, Eq)]
 pub enum CborKind {
     /// The input ends early.
     Truncated = 1,
@@ -44,7 +44,7 @@ impl From<CborKind> for u8 {
 }
 
 /// The first fault of some bytes, from left to right.
-#[derive(Clone, Copy, Debug, PartialEq, Eq, Hash)]
+#[derive(Clone, Copy, Debug, PartialEq, Eq)]
 pub struct CborFault {
     /// What is wrong.
     pub kind: CborKind,

@@ -3,7 +3,7 @@ use std::error::Error;
 use std::fmt;
 
 /// Why blocks are no tipset, in the order in which it is decided. Indices count from 0.
-#[derive(Clone, Copy, Debug, PartialEq, Eq, Hash)]
+#[derive(Clone, Copy, Debug, PartialEq, Eq)]
 pub enum TipsetFault {
     /// There is no block.
     Empty,

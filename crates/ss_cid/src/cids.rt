@@ -1,5 +1,5 @@
 //! A list of CIDs.
-ghost use Rattle.std.specs.Prelude.{◌≡◌, ◌<◌, ◌^◌, ◌↔◌, Some, [], ◌∷◌, ◌++◌, length, slice_get, All, IsTrue, IfOk, OnOk, OnErr};
+ghost use Rattle.std.specs.Prelude.{◌≡◌, ◌<◌, ◌^◌, ◌↔◌, Some, [], ◌∷◌, ◌++◌, length, take, slice_get, All, IsTrue, IfOk, OnOk, OnErr};
 ghost use Rattle.ss_cid.specs.Cid.{IsCid};
 
 use crate::cid::Cid;
@@ -41,6 +41,24 @@ impl Cids {
     {
         self.list.push(cid)?;
         Ok(())
+    }
+
+    /// Appends CIDs. Out of memory, the list stays as it was.
+    pub fn extend(&mut self, more: &Cids) -> Result<(), NoMemory>
+        ensures ok { OnOk result (self.new ≡ self.old ++ more.now) }
+        ensures err { OnErr result (self.new ≡ self.old) }
+    {
+        // `len` ensures that each CID is well formed.
+        prove!(more.len() < usize::MAX);
+        self.list.extend_from_slice(more.as_slice())?;
+        Ok(())
+    }
+
+    /// Takes away all CIDs but the first `len`, if there are more.
+    pub fn truncate(&mut self, len: usize)
+        ensures { self.new ≡ take len self.old }
+    {
+        self.list.truncate(len);
     }
 
     /// How many CIDs there are.

@@ -27,7 +27,7 @@ pub const HASH_SHA2_256: u64 = 0x12;
 pub const HASH_BLAKE2B_256: u64 = 0xb220;
 
 /// How a block's bytes are read.
-#[derive(Clone, Copy, Debug, PartialEq, Eq, Hash)]
+#[derive(Clone, Copy, Debug, PartialEq, Eq)]
 pub enum Codec {
     /// As they are.
     Raw,
@@ -59,7 +59,7 @@ impl From<u64> for Codec {
 }
 
 /// Which hash function made a digest.
-#[derive(Clone, Copy, Debug, PartialEq, Eq, Hash)]
+#[derive(Clone, Copy, Debug, PartialEq, Eq)]
 pub enum HashCode {
     /// None: the digest is the block itself.
     Identity,

@@ -6,7 +6,7 @@ use std::error::Error;
 use std::fmt;
 
 /// Why bytes are no CID, or no varint, or a text is no CID's text. Offsets count bytes from 0.
-#[derive(Clone, Copy, Debug, PartialEq, Eq, Hash)]
+#[derive(Clone, Copy, Debug, PartialEq, Eq)]
 pub enum CidFault {
     /// The input ends early; `at` is its length.
     Short { at: usize },

@@ -5,7 +5,7 @@ use std::error::Error;
 use std::fmt;
 
 /// A call ran out of memory. A call that answers it leaves its object as it was.
-#[derive(Clone, Copy, Debug, PartialEq, Eq, Hash)]
+#[derive(Clone, Copy, Debug, PartialEq, Eq)]
 pub struct NoMemory;
 
 impl fmt::Display for NoMemory {

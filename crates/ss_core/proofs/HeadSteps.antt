@@ -103,17 +103,17 @@ pub decides : (kept : Kept) (cids : List (List ℕ)) (found : Option HeadReply) 
 decides kept cids found none is = subst (λ e. found ≡ option_or e (first_of (absent_at kept cids) (length cids))) none (sym is)
 
 -- the CID at a place stands for a block, or does not, as its length tells
-pub is_absent : (kept : Kept) (cids : List (List ℕ)) (i : ℕ) (c : List ℕ) → slice_get cids i ≡ Some c → is_some (option_map length (fetched kept c)) ≡ false → absent_at kept cids i ≡ Some (head.Absent i)
+pub is_absent : (kept : Kept) (cids : List (List ℕ)) (i : ℕ) (c : List ℕ) → slice_get cids i ≡ Some c → is_some (fetched kept c) ≡ false → absent_at kept cids i ≡ Some (head.Absent i)
 is_absent kept cids i c at none = rw at (on (fetched kept c) none)
   where
-    on : (found : Option (List ℕ)) → is_some (option_map length found) ≡ false → (if is_some found then None else Some (head.Absent i)) ≡ Some (head.Absent i)
+    on : (found : Option (List ℕ)) → is_some found ≡ false → (if is_some found then None else Some (head.Absent i)) ≡ Some (head.Absent i)
     on None e = refl
     on (Some b) e = absurd (true≢false e)
 
-pub is_present : (kept : Kept) (cids : List (List ℕ)) (i : ℕ) (c : List ℕ) → slice_get cids i ≡ Some c → is_some (option_map length (fetched kept c)) ≡ true → absent_at kept cids i ≡ None
+pub is_present : (kept : Kept) (cids : List (List ℕ)) (i : ℕ) (c : List ℕ) → slice_get cids i ≡ Some c → is_some (fetched kept c) ≡ true → absent_at kept cids i ≡ None
 is_present kept cids i c at there = rw at (on (fetched kept c) there)
   where
-    on : (found : Option (List ℕ)) → is_some (option_map length found) ≡ true → (if is_some found then None else Some (head.Absent i)) ≡ None
+    on : (found : Option (List ℕ)) → is_some found ≡ true → (if is_some found then None else Some (head.Absent i)) ≡ None
     on None e = absurd (true≢false (sym e))
     on (Some b) e = refl
 

@@ -1,5 +1,5 @@
 -- Calls that write no record.
-use Rattle.std.proofs.Common.{◌≡◌, inl, inr, ℕ, ◌≤◌, true, false, true≢false, List, refl, sym, ap, ◌∙◌, subst, arith}
+use Rattle.std.proofs.Common.{◌≡◌, inl, inr, ◌≤◌, true, false, true≢false, List, refl, sym, ap, ◌∙◌, subst, arith}
 use Rattle.std.specs.Prelude.{if◌then◌else◌}
 use Rattle.ss_device.specs.declared.disk.Disk.{Ghosts}
 use Rattle.ss_device.specs.Calls.{LeavesFiles}

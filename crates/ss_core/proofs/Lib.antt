@@ -1,4 +1,5 @@
 mod Faults
+mod Finding
 mod Gets
 mod HeadSteps
 mod HotCount

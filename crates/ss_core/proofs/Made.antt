@@ -34,13 +34,13 @@ pub rose_on : (was mid now : ℕ) → mid ≡ was → Rose mid now → Rose was 
 rose_on was mid now same rose = omega (arith, same, rose)
 
 -- what did nothing does over any disk, where its answer is no fault of the disk and does not tell that the log was settled
-pub idle_makes : {D : Type 0} (disk : Ghosts D) (core : SplitCore D disk) (call : Call) (answer : Answer) → is_disk_fault answer ≡ false → OfFullLog (λ file need room. (file ≡ hot_file) × (need ≡ need_of core call) × (room ≡ room_of core.hot) × (room < need)) answer → IsUnwritten disk answer core.disk core.disk → (use_of call answer).settles ≡ false → Makes core core call answer
+pub idle_makes : {D : Type 0} (disk : Ghosts D) (core : SplitCore D disk) (call : Call) (answer : Answer) → is_disk_fault answer ≡ false → OfFullLog (λ file need room. (file ≡ hot_file) × (need ≡ need_of core call) × (room ≡ room_of core.hot) × (room < need)) answer → IsUnwritten disk core.hot.log.unsure answer core.disk core.disk → (use_of call answer).settles ≡ false → Makes core core call answer
 idle_makes disk core call answer no_fault full same unsettled = record {
   fault = λ wrong. never (sym no_fault ∙ wrong);
   no_fault = inr refl;
   full = full;
   grows = omega arith;
-  memory = λ _ _. same;
+  memory = λ _. same;
   still = λ _. refl;
   settled = λ wrong. never (sym unsettled ∙ wrong);
   settings = refl;
@@ -54,8 +54,8 @@ module _ {D : Type 0} (disk : Ghosts D) (old new : SplitCore D disk) (settings :
   pub put_failed : (v : ℕ) (pairs : List (List ℕ × List ℕ)) → Rose (disk.faults old.disk) (disk.faults new.disk) → Makes old new (call.Put v pairs) (answer.Put put.DiskFault)
   put_failed v pairs rose = record { fault = λ _. rose; no_fault = inl refl; full = tt; grows = grows; memory = λ wrong. never wrong; still = λ not. never (sym not); settled = λ wrong. never wrong; settings = settings; touches = touches }
 
-  pub put_wanting : (v : ℕ) (pairs : List (List ℕ × List ℕ)) → disk.faults new.disk ≡ disk.faults old.disk → (old.hot.log.unsure ≡ false → new.disk ≡ old.disk) → Makes old new (call.Put v pairs) (answer.Put put.NoMemory)
-  put_wanting v pairs kept same = record { fault = λ wrong. never wrong; no_fault = inr kept; full = tt; grows = grows; memory = λ _ sure. same sure; still = λ not. never (sym not); settled = λ wrong. never wrong; settings = settings; touches = touches }
+  pub put_wanting : (v : ℕ) (pairs : List (List ℕ × List ℕ)) → new.disk ≡ old.disk → Makes old new (call.Put v pairs) (answer.Put put.NoMemory)
+  put_wanting v pairs same = record { fault = λ wrong. never wrong; no_fault = inr (ap disk.faults same); full = tt; grows = grows; memory = λ _. same; still = λ _. same; settled = λ wrong. never wrong; settings = settings; touches = touches }
 
   module _ (v : ℕ) (c : List ℕ) (none : None ≡ identity_of c) where
     -- a block that is not its CID's own is looked up

@@ -14,7 +14,9 @@ use Rattle.ss_cid.specs.Cid.{identity_of, hash_of, digest_of, hash_named}
 use Rattle.ss_cid.specs.declared.codec.HashCode.{HashCode}
 use Rattle.ss_model.specs.State.{CidSet}
 use Rattle.ss_model.specs.Lawful.{is_left_out, new_pairs}
-use Rattle.ss_core.specs.Replies.{AreNoted, ArePairsAt}
+use Rattle.ss_core.specs.declared.fresh.Seen.{Seen}
+use Rattle.ss_core.specs.Seen.{AreSeen, is_absent, held_in, seen_in, with_hash_code}
+use Rattle.ss_core.specs.Replies.{ArePairsAt}
 use Rattle.ss_core.proofs.Puts.{picked, fresh_few}
 
 -- where as many are new as there are, all are
@@ -97,11 +99,6 @@ other_code c code named not = go (hash_of c == 0) (λ e. not (named ∙ e))
     go true other = absurd (other refl)
     go false other = refl
 
--- whether a CID is left out, by what is told of it
-pub left_out_is : (hot : CidSet) (c : List ℕ) (identity kept : Bool) → is_some (identity_of c) ≡ identity → finite_set.contains hot c ≡ kept → is_left_out hot c ≡ (identity || kept)
-unfolding is_left_out
-left_out_is hot c identity kept a b = λ k. a k || b k
-
 or_assoc : (a b m : Bool) → (a || (b || m)) ≡ ((a || b) || m)
 or_assoc true b m = refl
 or_assoc false b m = refl
@@ -113,8 +110,29 @@ unfolding is_left_out
 told hot met c out said a m = or_assoc (is_some (identity_of c)) _ _ ∙ (λ k. a k || m k)
 
 -- what is noted of a pair
-pub noted_is : (holds : List ℕ → Bool) (pairs : List (List ℕ × List ℕ)) (noted : List Bool) (i : ℕ) (p : List ℕ × List ℕ) (d : Bool) → AreNoted holds pairs noted → slice_get pairs i ≡ Some p → holds p.0 ≡ get_or noted i d
-noted_is holds pairs noted i p d are at = sym (get_or_from_slice_get noted i _ d (are i p at))
+pub noted_is : {A : Type 0} (of : List ℕ → A) (pairs : List (List ℕ × List ℕ)) (noted : List A) (i : ℕ) (p : List ℕ × List ℕ) (d : A) → ((k : ℕ) (q : List ℕ × List ℕ) → slice_get pairs k ≡ Some q → slice_get noted k ≡ Some (of q.0)) → slice_get pairs i ≡ Some p → of p.0 ≡ get_or noted i d
+noted_is of pairs noted i p d are at = sym (get_or_from_slice_get noted i _ d (are i p at))
+
+-- what is seen of a CID tells whether it is left out
+pub out_is : (hot : CidSet) (c : List ℕ) → is_left_out hot c ≡ not (is_absent (seen_in hot c))
+unfolding is_left_out
+out_is hot c = go (is_some (identity_of c)) (finite_set.contains hot c)
+  where
+    go : (identity kept : Bool) → (identity || kept) ≡ not (is_absent (if identity then Seen.Identity else if kept then Seen.Hot else Seen.Absent))
+    go true kept = refl
+    go false true = refl
+    go false false = refl
+
+-- and what was seen of the pair at a place
+pub out_at : (hot : CidSet) (pairs : List (List ℕ × List ℕ)) (seen : List Seen) (i : ℕ) (p : List ℕ × List ℕ) (d : Seen) (absent : Bool) → AreSeen (seen_in hot) pairs seen → slice_get pairs i ≡ Some p → absent ≡ is_absent (get_or seen i d) → is_left_out hot p.0 ≡ not absent
+out_at hot pairs seen i p d absent are at is = out_is hot p.0 ∙ ap not (ap is_absent (noted_is (seen_in hot) pairs seen i p d are at) ∙ sym is)
+
+-- what is seen of a CID, by its hash code
+pub seen_is : (hot : CidSet) (c : List ℕ) (code : HashCode) → code ≡ hash_named (hash_of c) → with_hash_code code (held_in hot c) ≡ seen_in hot c
+seen_is hot c HashCode.Identity named = ap (λ b. if b then Seen.Identity else held_in hot c) (sym (identity_code c HashCode.Identity named refl))
+seen_is hot c HashCode.Sha2x256 named = ap (λ b. if b then Seen.Identity else held_in hot c) (sym (other_code c HashCode.Sha2x256 named (λ e. absurd cc)))
+seen_is hot c HashCode.Blake2b256 named = ap (λ b. if b then Seen.Identity else held_in hot c) (sym (other_code c HashCode.Blake2b256 named (λ e. absurd cc)))
+seen_is hot c (HashCode.Other n) named = ap (λ b. if b then Seen.Identity else held_in hot c) (sym (other_code c (HashCode.Other n) named (λ e. absurd cc)))
 
 -- what was added was not there, and what was not added was
 pub was_there : (there added : Bool) → added ≡ not there → there ≡ not added

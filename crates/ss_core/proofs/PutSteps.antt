@@ -1,21 +1,23 @@
 -- The steps of a put whose parcel passes.
-use Rattle.std.proofs.Common.{◌≡◌, ◌≢◌, ◌⊎◌, inl, inr, ⊎_elim, ℕ, ◌+◌, ◌<◌, ◌≤◌, Bool, true, false, List, [], ◌∷◌, ◌++◌, length, Option, None, Some, refl, sym, ap, subst, ◌∙◌, arith}
-use Rattle.std.specs.Prelude.{is_some, All}
+use Rattle.std.proofs.Common.{◌≡◌, ◌≢◌, ◌⊎◌, inl, inr, ⊎_elim, ℕ, ◌+◌, ◌<◌, ◌≤◌, Bool, true, false, List, [], ◌∷◌, ◌++◌, length, None, Some, refl, sym, ap, subst, ◌∙◌, arith}
+use Rattle.std.specs.Prelude.{is_some, All, Ok, Err}
 use Rattle.std.specs.FinMap as finite_map
 use Rattle.ss_device.specs.declared.disk.Disk.{Ghosts}
 use Rattle.ss_device.specs.Disk.{Files}
 use Rattle.ss_device.specs.Calls.{Leaves, LeavesFiles}
-use Rattle.ss_device.proofs.Goes.{leaves_wider}
-use Rattle.ss_gatelog.specs.GateLog.{HasEither}
+use Rattle.ss_gatelog.specs.Log.{HasList}
+use Rattle.ss_gatelog.specs.GateLog.{Log}
+use Rattle.ss_gatelog.proofs.Logs.{stands_end}
 use Rattle.ss_records.specs.declared.record.Config.{Config as Settings}
 use Rattle.ss_records.specs.declared.record.Record.{Record}
 use Rattle.ss_records.specs.declared.record.Record.TheVariants.{Put}
 use Rattle.ss_records.specs.Record.{Fits, IsValue, BlockFits, spelling}
-use Rattle.ss_store.specs.Append.{bodies}
+use Rattle.ss_store.specs.Append.{bodies, HasOneOf}
+use Rattle.ss_store.specs.declared.fault.StoreFault.{StoreFault}
 use Rattle.ss_store.specs.Places.{CidMap, with_pairs}
 use Rattle.ss_store.specs.declared.place.Place.{Place}
 use Rattle.ss_hot.specs.Half.{hot_after, hot_from}
-use Rattle.ss_hot.specs.Store.{Hot, Keeps, SameButDoubt, AreNotHot, room_of}
+use Rattle.ss_hot.specs.Store.{Hot, Keeps, KeepsWritten, SameButDoubt, AreNotHot, room_of}
 use Rattle.ss_hot.proofs.Grown.{head_from-push, base_from-push, tells_next}
 use Rattle.ss_hot.proofs.Places.{places_some, places_len}
 use Rattle.ss_model.specs.State.{State, Kept}
@@ -26,13 +28,13 @@ use Rattle.ss_model.specs.declared.call.Answer.TheVariants as answer
 use Rattle.ss_model.proofs.Need.{record_takes}
 use Rattle.ss_core.specs.declared.split_core.SplitCore.{SplitCore}
 use Rattle.ss_core.specs.Calls.{Steps}
-use Rattle.ss_core.specs.Calls.{blocks_record, bytes_of, doubt_of, asking, writing, perhaps_writing}
+use Rattle.ss_core.specs.Calls.{blocks_record, bytes_of, doubt_of, writing, perhaps_writing}
 use Rattle.ss_core.specs.Replies.{IsLooked, cids_of, IsReady}
-use Rattle.ss_core.specs.declared.fresh.Looked.{Looked}
-use Rattle.ss_core.specs.StandsFor.{IsLeftBy, AreOfHalf, StandsFor, HasEitherState, Doubt, no_doubt, appended}
-use Rattle.ss_core.proofs.Idle.{doubts_none, doubts_same, unwritten, idle, stands_anew}
-use Rattle.ss_core.proofs.Images.{has_closed, own_half, end_of}
-use Rattle.ss_core.proofs.LogFiles.{leaves_hot, leaves_then}
+use Rattle.ss_core.specs.declared.fresh.Seen.{Seen}
+use Rattle.ss_core.specs.StandsFor.{IsLeftBy, AreOfHalf, StandsFor, HasEitherState, Doubt, no_doubt, appended, with_doubt}
+use Rattle.ss_core.proofs.Idle.{doubts_none, doubts_same, unwritten, idle, stands_anew, stands_still}
+use Rattle.ss_core.proofs.Images.{has_closed, own_half, either_state}
+use Rattle.ss_core.proofs.LogFiles.{leaves_hot}
 use Rattle.ss_core.proofs.Puts.{new_pairs_alike, new_again, written_are, cids_known, kept_more, hot_more, rows_more, fresh_fit, fresh_few, fresh_short, fresh_absent}
 use Rattle.ss_core.proofs.Settling.{keeps_sure}
 use Rattle.ss_core.specs.LogFiles.{hot_file, log_files}
@@ -50,8 +52,8 @@ pub new_absent : (hot : Hot) (pairs fresh : List (List ℕ × List ℕ)) → new
 new_absent hot pairs fresh is = subst (λ ps. AreNotHot hot ps) is (fresh_absent hot.places pairs)
 
 -- where all are new, the bytes that the look told are those of their record
-pub own_body : (hot : Hot) (pairs : List (List ℕ × List ℕ)) (looked : Looked) → IsReady pairs → IsLooked hot pairs looked → new_pairs (cids_of hot.places) pairs ≡ pairs → looked.bytes ≡ body_bytes pairs
-own_body hot pairs looked ready is all = omega (arith, is.own (new_absent hot pairs pairs all), ready.short)
+pub own_body : (hot : Hot) (pairs : List (List ℕ × List ℕ)) (bytes : ℕ) (seen : List Seen) → IsReady pairs → IsLooked hot pairs bytes seen → new_pairs (cids_of hot.places) pairs ≡ pairs → bytes ≡ body_bytes pairs
+own_body hot pairs bytes seen ready is all = omega (arith, is.own (new_absent hot pairs pairs all), ready.short)
 
 -- a record of so many bytes fits a log's record
 pub spelled_short : (pairs : List (List ℕ × List ℕ)) (top : ℕ) → body_bytes pairs ≤ top → length (spelling (Put pairs)) ≤ top
@@ -134,8 +136,8 @@ pub need_short : (fresh : List (List ℕ × List ℕ)) (top : ℕ) → 1 ≤ len
 need_short fresh top some short = omega (arith, bytes_are fresh fresh refl some, short)
 
 -- so it is not refused for want of room
-pub has_room : (old mid : Hot) (fresh : List (List ℕ × List ℕ)) (need room : ℕ) → SameButDoubt old mid → 5 + body_bytes fresh ≤ room_of old → need ≡ 5 + length (spelling (Put fresh)) → room ≡ room_of mid → room < need → ⊥
-has_room old mid fresh need room same fits need_is room_is full = omega (arith, record_takes fresh, ap room_of same, fits, need_is, room_is, full)
+pub has_room : (hot : Hot) (fresh : List (List ℕ × List ℕ)) (room : ℕ) → 5 + body_bytes fresh ≤ room_of hot → room ≡ room_of hot → room < 5 + length (spelling (Put fresh)) → ⊥
+has_room hot fresh room fits room_is full = omega (arith, record_takes fresh, fits, room_is, full)
 
 -- there is a row for each block, and none for a new one is asked for
 pub none_few : {D : Type 0} (disk : Ghosts D) (s : State) (doubt : Doubt) (core : SplitCore D disk) → StandsFor core s doubt → finite_map.len core.hot.places + 0 ≤ core.hot.settings.rows
@@ -158,8 +160,10 @@ module _ {D : Type 0} (disk : Ghosts D) (s : State) (doubt : Doubt) (v : ℕ) (p
         idle disk core core s doubt (call.Put v pairs) (answer.Put (put.LogFull file need room)) refl refl (record { settles = refl; stands = refl; roomy = refl }) stands
         (admitted disk core s doubt stands pairs fresh is v passed few, hot, (λ none. not_none fresh some (sym (wrote core stands) ∙ none)), need_is ∙ ap pairs_need (sym (wrote core stands)), full) stands
 
-    pub no_memory : Steps core core s doubt (call.Put v pairs) (answer.Put put.NoMemory)
-    no_memory = idle disk core core s doubt (call.Put v pairs) (answer.Put put.NoMemory) refl refl (record { settles = refl; stands = refl; roomy = refl }) stands passed stands
+  -- out of memory nothing changed
+  pub no_memory : (old new : SplitCore D disk) → StandsFor old s doubt → new.disk ≡ old.disk → new.hot ≡ old.hot → new.views ≡ old.views → Steps old new s doubt (call.Put v pairs) (answer.Put put.NoMemory)
+  no_memory old new stands same same_hot viewed =
+      idle disk old new s doubt (call.Put v pairs) (answer.Put put.NoMemory) same same_hot (record { settles = refl; stands = refl; roomy = refl }) stands passed (stands_still disk old new s doubt same same_hot stands viewed)
 
   -- the log was asked to be settled, and nothing was written
   module _ (old new : SplitCore D disk) (stands : StandsFor old s doubt) (same : SameButDoubt old.hot new.hot) (leaves : LeavesFiles disk log_files (HasEitherState s doubt) old.disk new.disk) where
@@ -167,11 +171,6 @@ module _ {D : Type 0} (disk : Ghosts D) (s : State) (doubt : Doubt) (v : ℕ) (p
     not_settled few room after =
         unwritten disk old new s doubt doubt (call.Put v pairs) (answer.Put put.DiskFault) perhaps_writing refl refl (λ _. omega (arith, ap (λ (ps : List (List ℕ × List ℕ)). bytes_of (blocks_record ps)) (wrote old stands), room))
         (doubts_same perhaps_writing _ doubt refl) (ap (λ (h : Hot). h.log.end) same) leaves (admitted disk old s doubt stands pairs fresh is v passed few) after
-
-    pub no_more_memory : StandsFor new s no_doubt → Steps old new s doubt (call.Put v pairs) (answer.Put put.NoMemory)
-    no_more_memory after =
-        unwritten disk old new s doubt no_doubt (call.Put v pairs) (answer.Put put.NoMemory) asking refl refl (λ _. omega arith)
-        (doubts_none asking _ doubt refl) (ap (λ (h : Hot). h.log.end) same) leaves passed after
 
     pub none_stored : fresh ≡ [] → StandsFor new s no_doubt → Steps old new s doubt (call.Put v pairs) (answer.Put (put.Stored 0))
     none_stored none after =
@@ -185,71 +184,85 @@ module _ {D : Type 0} (disk : Ghosts D) (s : State) (doubt : Doubt) (v : ℕ) (p
         stands_anew disk new new.hot.settings (after_put s pairs (put.Stored 0)) no_doubt after.records refl after.keeps left after.views after.doubt_is after.of_half left
         )
 
-  -- The log was settled, and a record of the new blocks was written, or may have been.
-  module _ (old mid new : SplitCore D disk) (stands : StandsFor old s doubt) (some : Fits (Put fresh)) (value : IsValue (Put fresh)) (few : finite_map.len old.hot.places + length fresh ≤ old.hot.settings.rows) (room : 5 + body_bytes fresh ≤ room_of old.hot) (same : SameButDoubt old.hot mid.hot)
-      (first : LeavesFiles disk log_files (HasEitherState s doubt) old.disk mid.disk) (settled : StandsFor mid s no_doubt) (settings : new.hot.settings ≡ mid.hot.settings) (viewed : new.views ≡ mid.views)
-      (second : (records : List Record) → Keeps disk mid.disk mid.hot records records → Leaves disk mid.hot.log.file (HasEither mid.hot.settings.limit (bodies records) (bodies (records ++ Put fresh ∷ []))) mid.disk new.disk) where
+  -- A record of the new blocks was written, or may have been.
+  module _ (old new : SplitCore D disk) (stands : StandsFor old s doubt) (some : Fits (Put fresh)) (value : IsValue (Put fresh)) (few : finite_map.len old.hot.places + length fresh ≤ old.hot.settings.rows) (room : 5 + body_bytes fresh ≤ room_of old.hot)
+      (settings : new.hot.settings ≡ old.hot.settings) (viewed : new.views ≡ old.views) where
+    -- the records with what was in doubt, and with the new one
+    abbrev others : List Record
+    others = with_doubt hot_file stands.records doubt
+
     abbrev more : List Record
-    more = settled.records ++ Put fresh ∷ []
+    more = stands.records ++ Put fresh ∷ []
 
     small : finite_map.len s.kept + length fresh ≤ s.config.rows
     small = omega (arith, few, count_is disk old s doubt stands, ap (λ (c : Settings). c.rows) stands.state.config)
 
     -- the longer list is one of a half
-    more_of_half : AreOfHalf mid.hot.settings more
-    more_of_half = let tells = tells_next mid.hot mid.hot.log settled.records (Put fresh) refl settled.keeps.tells (end_of disk mid.disk mid.hot.log (bodies settled.records) (bodies settled.records) settled.keeps.stands) some value tt in (tells.in_place, tells.settings)
+    more_of_half : AreOfHalf old.hot.settings more
+    more_of_half = let tells = tells_next old.hot old.hot.log stands.records (Put fresh) refl stands.keeps.tells (stands_end disk old.disk old.hot.log (bodies stands.records) (bodies others) stands.keeps.stands) some value tt in (tells.in_place, tells.settings)
 
     -- it leaves the state with all blocks of the parcel, and that with the new ones, which is the same
-    left_all : IsLeftBy mid.hot.settings more (after_put s pairs (put.Stored 0))
-    left_all = left_more mid.hot.settings settled.records s pairs fresh settled.state is small
+    left_all : IsLeftBy old.hot.settings more (after_put s pairs (put.Stored 0))
+    left_all = left_more old.hot.settings stands.records s pairs fresh stands.state is small
 
-    left_new : IsLeftBy mid.hot.settings more (after_put s fresh (put.Stored 0))
-    left_new = left_more mid.hot.settings settled.records s fresh fresh settled.state (ap (new_pairs s.hot) (sym is) ∙ new_again s.hot pairs ∙ is) small
+    left_new : IsLeftBy old.hot.settings more (after_put s fresh (put.Stored 0))
+    left_new = left_more old.hot.settings stands.records s fresh fresh stands.state (ap (new_pairs s.hot) (sym is) ∙ new_again s.hot pairs ∙ is) small
 
     -- each image has a state with the new blocks, or one without
-    leaves_either : (Q : Files → Type 0) → ((files : Files) → HasEitherState s doubt files → Q files) → ((files : Files) → HasEither mid.hot.settings.limit (bodies settled.records) (bodies more) (files hot_file) → Q files) → LeavesFiles disk log_files Q old.disk new.disk
+    leaves_either : (Q : Files → Type 0) → ((files : Files) → HasEitherState s doubt files → Q files) → ((files : Files) → HasList old.hot.settings.limit (files hot_file) (bodies more) → Q files)
+        → Leaves disk old.hot.log.file (HasOneOf old.hot.settings.limit stands.records others more) old.disk new.disk → LeavesFiles disk log_files Q old.disk new.disk
     leaves_either Q one two =
-        leaves_then disk Q old.disk mid.disk new.disk (leaves_wider disk log_files (HasEitherState s doubt) Q old.disk mid.disk one first)
-        (leaves_hot disk mid.hot.log.file (HasEither mid.hot.settings.limit (bodies settled.records) (bodies more)) Q mid.disk new.disk mid.file two (second settled.records settled.keeps))
+        leaves_hot disk old.hot.log.file (HasOneOf old.hot.settings.limit stands.records others more) Q old.disk new.disk old.file
+        (λ files lists. ⊎_elim (λ first. one files (either_state disk old s doubt stands files (inl first))) (λ rest. ⊎_elim (λ second. one files (either_state disk old s doubt stands files (inr second))) (two files) rest) lists)
 
-    pub is_stored : (n : ℕ) → n ≡ length fresh → new.hot.log.end ≡ mid.hot.log.end + 5 + length (spelling (Put fresh)) → new.hot.log.unsure ≡ false → ((records : List Record) → Keeps disk mid.disk mid.hot records records → Keeps disk new.disk new.hot (records ++ Put fresh ∷ []) [])
-        → Steps old new s doubt (call.Put v pairs) (answer.Put (put.Stored n))
-    is_stored n n_is end sure kept = record {
-      lawful = (admitted disk old s doubt stands pairs fresh is v passed few, omega (arith, rows_are disk old s doubt stands pairs fresh is, count_is disk old s doubt stands, n_is));
-      now = no_doubt;
-      doubts = doubts_none writing _ doubt refl;
-      after = stands_anew disk new mid.hot.settings (after_put s pairs (put.Stored n)) no_doubt more settings (keeps_sure disk new.disk new.hot more [] more sure (kept settled.records settled.keeps)) left_all (settled.views ∙ sym viewed) sure more_of_half left_all;
-      end = omega (arith, end, ap (λ (h : Hot). h.log.end) same, bytes_are (written_pairs s.kept s.hot pairs) fresh (wrote old stands) some.0.0, record_takes fresh);
-      roomy = λ _. omega (arith, bytes_are (written_pairs s.kept s.hot pairs) fresh (wrote old stands) some.0.0, room);
-      stops = leaves_either _ (λ files has. inl has) (λ files lists. ⊎_elim
-          (λ short. inl (inl (has_closed files mid.hot.settings settled.records s (own_half disk mid s no_doubt settled) settled.state short)))
-          (λ long. inr (inl (has_closed files mid.hot.settings more (after_put s pairs (put.Stored n)) more_of_half left_all long)))
-          lists);
-    }
-
-    pub is_doubted : SameButDoubt mid.hot new.hot → ((records : List Record) → Keeps disk mid.disk mid.hot records records → Keeps disk new.disk new.hot records (records ++ Put fresh ∷ [])) → Steps old new s doubt (call.Put v pairs) (answer.Put put.DiskFault)
-    is_doubted same' kept = by new.hot.log.unsure refl
-      where
-        keeps : Keeps disk new.disk new.hot settled.records more
-        keeps = kept settled.records settled.keeps
-
-        own_is : doubt_of (blocks_record (written_pairs s.kept s.hot pairs)) ≡ appended hot_file (Put fresh)
-        own_is = ap (λ (ps : List (List ℕ × List ℕ)). doubt_of (blocks_record ps)) (wrote old stands) ∙ ap doubt_of (takes fresh some.0.0)
-
-        step : (now : Doubt) → (now ≡ no_doubt) ⊎ (now ≡ appended hot_file (Put fresh)) → StandsFor new s now → Steps old new s doubt (call.Put v pairs) (answer.Put put.DiskFault)
-        step now which after = record {
-          lawful = admitted disk old s doubt stands pairs fresh is v passed few;
-          now = now;
-          doubts = record { settled = λ no. absurd (let differ : ⊥ = cc (no) in differ); still = λ no. absurd (let differ : ⊥ = cc (no) in differ); one_of = ⊎_elim (λ none. inl none) (λ own. inr (inr (own ∙ sym own_is))) which };
-          after = after;
-          end = omega (arith, ap (λ (h : Hot). h.log.end) same', ap (λ (h : Hot). h.log.end) same);
+    pub is_stored : (n : ℕ) → n ≡ length fresh → new.hot.log ≡ record old.hot.log { end = old.hot.log.end + (5 + length (spelling (Put fresh))); unsure = false }
+        → ((records others : List Record) → Keeps disk old.disk old.hot records others → KeepsWritten disk old.disk new.disk old.hot new.hot records others (Put fresh) (Ok tt)) → Steps old new s doubt (call.Put v pairs) (answer.Put (put.Stored n))
+    is_stored n n_is log written =
+        let sure : new.hot.log.unsure ≡ false = ap (λ (l : Log). l.unsure) log in
+        let kept = written stands.records others stands.keeps in
+        record {
+          lawful = (admitted disk old s doubt stands pairs fresh is v passed few, omega (arith, rows_are disk old s doubt stands pairs fresh is, count_is disk old s doubt stands, n_is));
+          now = no_doubt;
+          doubts = doubts_none writing _ doubt refl;
+          after = stands_anew disk new old.hot.settings (after_put s pairs (put.Stored n)) no_doubt more settings (keeps_sure disk new.disk new.hot more [] more sure kept.kept) left_all (stands.views ∙ sym viewed) sure more_of_half left_all;
+          end = omega (arith, ap (λ (l : Log). l.end) log, bytes_are (written_pairs s.kept s.hot pairs) fresh (wrote old stands) some.0.0, record_takes fresh);
           roomy = λ _. omega (arith, bytes_are (written_pairs s.kept s.hot pairs) fresh (wrote old stands) some.0.0, room);
-          stops = leaves_either _ (λ files has. inl has) (λ files lists. ⊎_elim
-              (λ short. inl (inl (has_closed files mid.hot.settings settled.records s (own_half disk mid s no_doubt settled) settled.state short)))
-              (λ long. inr (subst (λ (d : Doubt). HasEitherState s d files) (sym own_is) (inr (has_closed files mid.hot.settings more (after_put s fresh (put.Stored 0)) more_of_half left_new long))))
-              lists);
+          stops = leaves_either _ (λ files has. inl has) (λ files long. inr (inl (has_closed files old.hot.settings more (after_put s pairs (put.Stored n)) more_of_half left_all long))) kept.stops;
         }
 
-        by : (b : Bool) → new.hot.log.unsure ≡ b → Steps old new s doubt (call.Put v pairs) (answer.Put put.DiskFault)
-        by true unsure = step (appended hot_file (Put fresh)) (inr refl) (stands_anew disk new mid.hot.settings s (appended hot_file (Put fresh)) settled.records settings keeps settled.state (settled.views ∙ sym viewed) unsure more_of_half left_new)
-        by false sure = step no_doubt (inl refl) (stands_anew disk new mid.hot.settings s no_doubt settled.records settings (keeps_sure disk new.disk new.hot settled.records more settled.records sure keeps) settled.state (settled.views ∙ sym viewed) sure (own_half disk mid s no_doubt settled) settled.state)
+    module _ (e : StoreFault) (same : SameButDoubt old.hot new.hot) (written : (records others : List Record) → Keeps disk old.disk old.hot records others → KeepsWritten disk old.disk new.disk old.hot new.hot records others (Put fresh) (Err e)) where
+      own_is : doubt_of (blocks_record (written_pairs s.kept s.hot pairs)) ≡ appended hot_file (Put fresh)
+      own_is = ap (λ (ps : List (List ℕ × List ℕ)). doubt_of (blocks_record ps)) (wrote old stands) ∙ ap doubt_of (takes fresh some.0.0)
+
+      -- The store still stands for its records: with what was in doubt, if it was, or with the new one.
+      still : (Keeps disk new.disk new.hot stands.records others × (old.hot.log.unsure ≡ true)) ⊎ Keeps disk new.disk new.hot stands.records more
+      still = at old.hot.log.unsure refl
+        where
+          at : (b : Bool) → old.hot.log.unsure ≡ b → (Keeps disk new.disk new.hot stands.records others × (old.hot.log.unsure ≡ true)) ⊎ Keeps disk new.disk new.hot stands.records more
+          at true unsure = ⊎_elim (λ before. inl (before, unsure)) (λ perhaps. inr perhaps) (written stands.records others stands.keeps).failed
+          at false sure = inr (⊎_elim (λ perhaps. perhaps) (λ perhaps. perhaps) (written stands.records more (keeps_sure disk old.disk old.hot stands.records others more sure stands.keeps)).failed)
+
+      step : (now : Doubt) → (now ≡ no_doubt) ⊎ ((now ≡ doubt) ⊎ (now ≡ appended hot_file (Put fresh))) → StandsFor new s now → Steps old new s doubt (call.Put v pairs) (answer.Put put.DiskFault)
+      step now which after = record {
+        lawful = admitted disk old s doubt stands pairs fresh is v passed few;
+        now = now;
+        doubts = record { settled = λ no. absurd (let differ : ⊥ = cc (no) in differ); still = λ no. absurd (let differ : ⊥ = cc (no) in differ); one_of = ⊎_elim (λ none. inl none) (λ rest. inr (⊎_elim (λ before. inl before) (λ own. inr (own ∙ sym own_is)) rest)) which };
+        after = after;
+        end = omega (arith, ap (λ (h : Hot). h.log.end) same);
+        roomy = λ _. omega (arith, bytes_are (written_pairs s.kept s.hot pairs) fresh (wrote old stands) some.0.0, room);
+        stops = leaves_either _ (λ files has. inl has) (λ files long. inr (subst (λ (d : Doubt). HasEitherState s d files) (sym own_is) (inr (has_closed files old.hot.settings more (after_put s fresh (put.Stored 0)) more_of_half left_new long))))
+            (written stands.records others stands.keeps).stops;
+      }
+
+      pub is_doubted : Steps old new s doubt (call.Put v pairs) (answer.Put put.DiskFault)
+      is_doubted = by new.hot.log.unsure refl still
+        where
+          settle : (other : List Record) → new.hot.log.unsure ≡ false → Keeps disk new.disk new.hot stands.records other → Steps old new s doubt (call.Put v pairs) (answer.Put put.DiskFault)
+          settle other sure keeps =
+              step no_doubt (inl refl) (stands_anew disk new old.hot.settings s no_doubt stands.records settings (keeps_sure disk new.disk new.hot stands.records other stands.records sure keeps) stands.state (stands.views ∙ sym viewed) sure (own_half disk old s doubt stands) stands.state)
+
+          by : (b : Bool) → new.hot.log.unsure ≡ b → (Keeps disk new.disk new.hot stands.records others × (old.hot.log.unsure ≡ true)) ⊎ Keeps disk new.disk new.hot stands.records more → Steps old new s doubt (call.Put v pairs) (answer.Put put.DiskFault)
+          by true unsure (inl before) = step doubt (inr (inl refl)) (stands_anew disk new old.hot.settings s doubt stands.records settings before.0 stands.state (stands.views ∙ sym viewed) (unsure ∙ sym before.1 ∙ stands.doubt_is) stands.of_half stands.doubted)
+          by true unsure (inr perhaps) = step (appended hot_file (Put fresh)) (inr (inr refl)) (stands_anew disk new old.hot.settings s (appended hot_file (Put fresh)) stands.records settings perhaps stands.state (stands.views ∙ sym viewed) unsure more_of_half left_new)
+          by false sure (inl before) = settle others sure before.0
+          by false sure (inr perhaps) = settle more sure perhaps

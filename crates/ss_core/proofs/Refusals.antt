@@ -1,5 +1,5 @@
 -- A put that its state and its parcel refuse.
-use Rattle.std.proofs.Common.{ℕ, List, Option, refl}
+use Rattle.std.proofs.Common.{ℕ, List, refl}
 use Rattle.ss_device.specs.declared.disk.Disk.{Ghosts}
 use Rattle.ss_model.specs.State.{State}
 use Rattle.ss_model.specs.Lawful.{IsPutRefusal, IsFitting, IsFirstFault}

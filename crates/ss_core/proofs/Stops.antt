@@ -1,5 +1,5 @@
 -- How a fault that stops a put or a head is answered.
-use Rattle.std.proofs.Common.{◌≡◌, ◌⊎◌, inl, inr, ⊎_elim, ℕ, List, Option, refl, sym, subst}
+use Rattle.std.proofs.Common.{◌≡◌, ◌⊎◌, inl, inr, ⊎_elim, ℕ, List, refl, sym, subst}
 use Rattle.ss_device.specs.declared.disk.Disk.{Ghosts}
 use Rattle.ss_store.specs.declared.fault.StoreFault.{StoreFault}
 use Rattle.ss_store.specs.declared.fault.StoreFault.TheVariants as fault

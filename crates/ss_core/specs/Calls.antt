@@ -58,7 +58,7 @@ put_use (PutReply.TooLarge i) = untouched
 put_use (PutReply.UnknownHash i) = untouched
 put_use (PutReply.Mismatch i) = untouched
 put_use (PutReply.Malformed i kind at) = untouched
-put_use PutReply.NoMemory = asking
+put_use PutReply.NoMemory = untouched
 put_use (PutReply.TableFull rows) = untouched
 put_use (PutReply.LogFull file need room) = untouched
 put_use PutReply.DiskFault = perhaps_writing
@@ -206,30 +206,30 @@ OfLog P (of_table rows) = Unit {0}
 abbrev pub OfFullLog : (ℕ → ℕ → ℕ → Type 0) → Answer → Type 0
 OfFullLog P answer = OfLog P (obstacle_of answer)
 
--- what no memory leaves: a head called the disk for reads alone, and another call for nothing
-abbrev pub IsUnwritten : {D : Type 0} → Ghosts D → Answer → D → D → Type 0
-IsUnwritten disk (Answer.Head r) old new = Goes disk Same old new
-IsUnwritten disk (Answer.View r) old new = new ≡ old
-IsUnwritten disk (Answer.Close r) old new = new ≡ old
-IsUnwritten disk (Answer.Put r) old new = new ≡ old
-IsUnwritten disk (Answer.Get r) old new = new ≡ old
-IsUnwritten disk (Answer.Has r) old new = new ≡ old
-IsUnwritten disk (Answer.Size r) old new = new ≡ old
-IsUnwritten disk (Answer.Info i) old new = new ≡ old
+-- What a call leaves that is out of memory: a head only read, if no log was in doubt, and another call did not call the disk.
+abbrev pub IsUnwritten : {D : Type 0} → Ghosts D → Bool → Answer → D → D → Type 0
+IsUnwritten disk unsure (Answer.Head r) old new = unsure ≡ false → Goes disk Same old new
+IsUnwritten disk unsure (Answer.View r) old new = new ≡ old
+IsUnwritten disk unsure (Answer.Close r) old new = new ≡ old
+IsUnwritten disk unsure (Answer.Put r) old new = new ≡ old
+IsUnwritten disk unsure (Answer.Get r) old new = new ≡ old
+IsUnwritten disk unsure (Answer.Has r) old new = new ≡ old
+IsUnwritten disk unsure (Answer.Size r) old new = new ≡ old
+IsUnwritten disk unsure (Answer.Info i) old new = new ≡ old
 
 -- the settings of a store
 abbrev pub settings_of : {D : Type 0} {disk : Ghosts D} → SplitCore D disk → Settings
 settings_of core = core.hot.settings
 
 -- What a call does over any disk: a fault that the disk counted is answered as one, and nothing else is; a full log has just the
--- room that was left, which is less than the need; the log grows no further than its room; out of memory leaves each file as it
--- was where no record was in doubt.
+-- room that was left, which is less than the need; the log grows no further than its room; a call that is out of memory
+-- wrote nothing, except that a head may have settled a log.
 pub record Makes {D : Type 0} {disk : Ghosts D} (old new : SplitCore D disk) (call : Call) (answer : Answer) : Type 0 where
   pub fault : IsTrue (is_disk_fault answer) → Rose (disk.faults old.disk) (disk.faults new.disk)
   pub no_fault : IsTrue (is_disk_fault answer) ⊎ (disk.faults new.disk ≡ disk.faults old.disk)
   pub full : OfFullLog (λ file need room. (file ≡ hot_file) × (need ≡ need_of old call) × (room ≡ room_of old.hot) × (room < need)) answer
   pub grows : new.hot.log.end ≤ old.hot.log.end + room_of old.hot
-  pub memory : IsTrue (is_no_memory answer) → old.hot.log.unsure ≡ false → IsUnwritten disk answer old.disk new.disk
+  pub memory : IsTrue (is_no_memory answer) → IsUnwritten disk old.hot.log.unsure answer old.disk new.disk
   pub still : (use_of call answer).reaches ≡ false → new.disk ≡ old.disk
   pub settled : (use_of call answer).settles ≡ true → new.hot.log.unsure ≡ false
   pub settings : settings_of new ≡ settings_of old

@@ -1,12 +1,12 @@
 -- What comes of a put, in steps: whether its parcel passes, why it is refused, which blocks are new, and what settling the log does;
 -- and of reading blocks: how many bytes a get answers, what the blocks of a head are, and how a fault is answered.
-use Rattle.std.specs.{Prelude.{◌≡◌, ℕ, ◌+◌, ◌-◌, ◌^◌, ◌<◌, ◌≤◌, min, Bool, false, List, [], map, length, Option, None, Some, Result, Ok, Err, option_map, slice_get, IsTrue}, Option.option_or}
-use Rattle.ss_device.specs.{declared.disk.Disk.Ghosts, Calls.{LeavesFiles, Goes}, Disk.Same}
-use Rattle.ss_model.specs.{State.{State, Kept}, Lawful.{AreSound, IsFirstFault, body_bytes, pairs_need, IsDagCbor, IsPairFault, is_left_out}, declared.{TheConstants.{PUT_BLOCKS, PUT_BYTES}, call.{Call.Call, Answer.Answer, PutReply.PutReply, HeadReply.HeadReply, GetReply.GetReply}}, Head.{blocks_of, head_refusal}}
-use Rattle.ss_core.specs.{declared.{split_core.SplitCore.SplitCore, blocks.BlockFault.BlockFault, fresh.{Fresh.Fresh, Looked.Looked}}, Calls.{Steps, Makes, settings_of}, StandsFor.{Doubt, no_doubt, StandsFor, HasEitherState}, LogFiles.{hot_file, log_files}}
+use Rattle.std.specs.{Prelude.{◌≡◌, ℕ, ◌+◌, ◌-◌, ◌^◌, ◌<◌, ◌≤◌, min, false, List, [], map, length, Option, None, Some, Result, Ok, Err, option_map, slice_get, IsTrue}, Option.option_or}
+use Rattle.ss_device.specs.{declared.disk.Disk.Ghosts, Calls.{LeavesFiles, TouchesFiles, Goes}, Disk.Same}
+use Rattle.ss_model.specs.{State.{State, Kept}, Lawful.{AreSound, IsFirstFault, body_bytes, pairs_need, IsDagCbor, IsPairFault}, declared.{TheConstants.{PUT_BLOCKS, PUT_BYTES}, call.{Call.Call, Answer.Answer, PutReply.PutReply, HeadReply.HeadReply, GetReply.GetReply}}, Head.{blocks_of, head_refusal}}
+use Rattle.ss_core.specs.{declared.{split_core.SplitCore.SplitCore, blocks.BlockFault.BlockFault, fresh.{Fresh.Fresh, Seen.Seen}}, Calls.{Steps, Makes, settings_of}, Seen.{AreSeen, seen_in}, StandsFor.{Doubt, no_doubt, StandsFor, HasEitherState}, LogFiles.{hot_file, log_files}}
 use Rattle.ss_cbor.specs.{Fault.scanned, declared.fault.CborFault.CborFault}
-use Rattle.ss_store.specs.{Places.CidMap, declared.{place.Place.Place, fault.StoreFault.StoreFault}}
-use Rattle.ss_hot.specs.Store.{Hot, AreNotHot, room_of}
+use Rattle.ss_store.specs.{declared.{place.Place.Place, fault.StoreFault.StoreFault}}
+use Rattle.ss_hot.specs.Store.{Hot, AreNotHot, Settles as SettlesHot, room_of}
 use Rattle.ss_chain.specs.{Header.HeaderFields, Tipset.tipset_of}
 use Rattle.ss_cid.specs.Cid.{identity_of}
 use Rattle.std.specs.FinMap as finite_map
@@ -55,8 +55,14 @@ abbrev pub doubt_after : {E : Type 0} → Result (Unit {0}) E → Doubt → Doub
 doubt_after (Ok _) doubt = no_doubt
 doubt_after (Err _) doubt = doubt
 
--- A store whose log was settled, or could not be, stands for the state that it stood for.
-pub record Settles {D E : Type 0} {disk : Ghosts D} (old new : SplitCore D disk) (s : State) (doubt : Doubt) (result : Result (Unit {0}) E) : Type 0 where
+-- Over any disk: the hot log was settled. The views stay, and the files other than those of the logs.
+pub record Settles {D : Type 0} {disk : Ghosts D} (old new : SplitCore D disk) (result : Result (Unit {0}) StoreFault) : Type 0 where
+  pub hot : SettlesHot disk old.disk new.disk old.hot new.hot result
+  pub views : new.views ≡ old.views
+  pub touches : TouchesFiles disk log_files old.disk new.disk
+
+-- Where the disk exposes its files, a store whose log was settled, or could not be, stands for the state that it stood for.
+pub record StillStands {D E : Type 0} {disk : Ghosts D} (old new : SplitCore D disk) (s : State) (doubt : Doubt) (result : Result (Unit {0}) E) : Type 0 where
   pub after : StandsFor new s (doubt_after result doubt)
   pub stops : LeavesFiles disk log_files (HasEitherState s doubt) old.disk new.disk
 
@@ -76,14 +82,10 @@ IsMalformed p _ = ⊥
 abbrev pub IsFaultOf : List ℕ × List ℕ → BlockFault → Type 0
 IsFaultOf p fault = (i : ℕ) → IsPairFault i p (refusal_of fault i)
 
--- for each pair it is noted whether this holds of its CID
-abbrev pub AreNoted : (List ℕ → Bool) → List (List ℕ × List ℕ) → List Bool → Type 0
-AreNoted holds pairs noted = (k : ℕ) (p : List ℕ × List ℕ) → slice_get pairs k ≡ Some p → slice_get noted k ≡ Some (holds p.0)
-
--- A look at each pair told whether its record leaves it out, and where none is hot, the bytes of a record of these pairs.
-pub record IsLooked (hot : Hot) (pairs : List (List ℕ × List ℕ)) (looked : Looked) : Type 0 where
-  pub own : AreNotHot hot pairs → looked.bytes ≡ min (body_bytes pairs) (2 ^ 64 - 1)
-  pub noted : AreNoted (is_left_out (cids_of hot.places)) pairs looked.left_out
+-- A look at each pair told what is seen of it, and where none is hot, the bytes of a record of these pairs.
+pub record IsLooked (hot : Hot) (pairs : List (List ℕ × List ℕ)) (bytes : ℕ) (seen : List Seen) : Type 0 where
+  pub own : AreNotHot hot pairs → bytes ≡ min (body_bytes pairs) (2 ^ 64 - 1)
+  pub each : AreSeen (seen_in (cids_of hot.places)) pairs seen
 
 -- the pairs at these places are these
 abbrev pub ArePairsAt : List (List ℕ × List ℕ) → List ℕ → List (List ℕ × List ℕ) → Type 0

@@ -1,14 +1,15 @@
 //! Which blocks may be stored, and how many bytes a record of them has.
 
 ghost use Rattle.std.specs.Prelude.{◌≡◌, ◌^◌, ◌<◌, ◌≤◌, ℕ, List, length, OnOk, IfErr, IfOk, IsOk, MatchResult};
-ghost use Rattle.std.specs.FinSet as finite_set;
 ghost use Rattle.ss_cid.specs.Cid.{codec_of, codec_named, hash_of, hash_named};
 ghost use Rattle.ss_model.specs.State.{CidSet};
-ghost use Rattle.ss_model.specs.Lawful.{IsSound, AreSound, IsDagCbor, IsFirstFault, body_bytes, is_left_out};
+ghost use Rattle.ss_model.specs.Lawful.{IsSound, AreSound, IsDagCbor, IsFirstFault, body_bytes};
 ghost use Rattle.ss_model.specs.declared.TheConstants.{PUT_BLOCKS};
 ghost use Rattle.ss_cbor.specs.Fault.{scanned};
-ghost use Rattle.ss_core.specs.Replies.{AreNoted, IsFaultOf, IsMalformed, refusal_of};
+ghost use Rattle.ss_core.specs.Seen.{AreSeen, held_in, seen_in};
+ghost use Rattle.ss_core.specs.Replies.{IsFaultOf, IsMalformed, refusal_of};
 
+use crate::fresh::Seen;
 use ss_cbor::{CborKind, scan};
 use ss_cid::{Cid, Codec, HashCode, Parcel};
 use ss_hash::{HashFault, check_for_parts};
@@ -79,25 +80,21 @@ fn check_item(codec: Codec, block: &[u8]) -> Result<(), BlockFault>
     }
 }
 
-/// For each pair of a parcel, whether its record leaves it out: its CID is kept, or an identity CID. Or the refusal of its put by
-/// the first pair that may not be stored.
-pub fn check_blocks(
-    parcel: &Parcel,
-    kept: &[bool; PUT_BLOCKS],
-) -> Result<[bool; PUT_BLOCKS], PutReply>
+/// Notes which pairs have an identity CID, beside what was seen of the others. Or the refusal of the put by the first pair that may
+/// not be stored.
+pub(crate) fn check_blocks(parcel: &Parcel, seen: &mut [Seen; PUT_BLOCKS]) -> Result<(), PutReply>
     requires { length parcel.now ≤ PUT_BLOCKS }
     ensures judged { MatchResult result (λ _. AreSound parcel.now) (IsFirstFault parcel.now) }
-    ensures left_out { (hot : CidSet) → AreNoted (finite_set.contains hot) parcel.now kept.now → IfOk result (AreNoted (is_left_out hot) parcel.now) }
+    ensures seen { (hot : CidSet) → AreSeen (held_in hot) parcel.now seen.old → OnOk result (AreSeen (seen_in hot) parcel.now seen.new) }
 {
-    let mut left_out = [false; PUT_BLOCKS];
     for i in 0..parcel.len() {
         let (cid, block) = parcel.at(i);
         match check_block(&cid, block) {
-            Ok(hash_code) => left_out[i] = matches!(hash_code, HashCode::Identity) || kept[i],
+            Ok(hash_code) => seen[i] = seen[i].with_hash_code(hash_code),
             Err(fault) => return Err(fault.refusal(i as u32)),
         }
     }
-    Ok(left_out)
+    Ok(())
 }
 
 /// The bytes of the body of a record of these blocks.

@@ -1,27 +1,59 @@
 //! The blocks of a parcel that are new to a store.
 
-ghost use Rattle.std.specs.Prelude.{◌<◌, ◌≤◌, length, All, IfOk};
+ghost use Rattle.std.specs.Prelude.{◌≡◌, ◌<◌, ◌≤◌, length, All, IfOk};
 ghost use Rattle.ss_model.specs.State.{CidSet};
-ghost use Rattle.ss_model.specs.Lawful.{is_left_out, new_pairs};
+ghost use Rattle.ss_model.specs.Lawful.{new_pairs};
 ghost use Rattle.ss_model.specs.declared.TheConstants.{PUT_BLOCKS};
-ghost use Rattle.ss_core.specs.Replies.{AreNoted, ArePairsAt, IsFresh};
+ghost use Rattle.ss_core.specs.Seen.{AreSeen, by_len, is_absent, seen_in, with_hash_code};
+ghost use Rattle.ss_core.specs.Replies.{ArePairsAt, IsFresh};
 
-use ss_cid::{NoMemory, Parcel};
+use ss_cid::{HashCode, NoMemory, Parcel};
 use ss_model::PUT_BLOCKS;
 use std::alloc::Global;
 use std::collections::BTreeSet;
 
-/// What a look at each pair of a parcel tells.
-#[derive(Debug, Drop)]
-pub(crate) struct Looked {
-    /// The bytes that a put of the parcel takes, 2^64 - 1 at the most.
-    pub bytes: u64,
-    /// For each pair in order, whether its record leaves it out: its CID is kept, or an identity CID.
-    pub left_out: [bool; PUT_BLOCKS],
+/// What a put sees of a pair by its CID alone: whether its record writes the block.
+#[derive(Clone, Copy)]
+pub(crate) enum Seen {
+    /// The CID is not kept: the record writes its block.
+    Absent,
+    /// The block is hot.
+    Hot,
+    /// An identity CID, which is its own block.
+    Identity,
+}
+
+impl Seen {
+    /// What a look-up tells, by the length of the block that is kept.
+    pub fn by_len(kept: Option<u32>) -> Seen
+        ensures { result ≡ by_len kept }
+    {
+        match kept {
+            Some(_) => Seen::Hot,
+            None => Seen::Absent,
+        }
+    }
+
+    /// What is seen once the hash code of the CID is read.
+    pub fn with_hash_code(self, hash_code: HashCode) -> Seen
+        ensures { result ≡ with_hash_code hash_code self }
+    {
+        match hash_code {
+            HashCode::Identity => Seen::Identity,
+            _ => self,
+        }
+    }
+
+    // Whether the record writes the block.
+    fn is_absent(self) -> bool
+        ensures { result ≡ is_absent self }
+    {
+        matches!(self, Seen::Absent)
+    }
 }
 
 /// The new blocks of a parcel.
-#[derive(Debug, Drop)]
+#[derive(Drop)]
 pub(crate) enum Fresh {
     /// No block is new.
     Nothing,
@@ -31,17 +63,16 @@ pub(crate) enum Fresh {
     Part(Parcel),
 }
 
-/// The blocks of a parcel that are not left out, each where its CID first stands. They are copied only where others stand among
-/// them.
+/// The blocks of a parcel that are absent, each where its CID first stands. They are copied only where others stand among them.
 pub(crate) fn fresh_blocks(
     alloc: Global,
     parcel: &Parcel,
-    left_out: &[bool; PUT_BLOCKS],
+    seen: &[Seen; PUT_BLOCKS],
 ) -> Result<Fresh, NoMemory>
     requires { length parcel.now ≤ PUT_BLOCKS }
-    ensures { (hot : CidSet) → AreNoted (is_left_out hot) parcel.now left_out.now → IfOk result (IsFresh parcel.now (new_pairs hot parcel.now)) }
+    ensures { (hot : CidSet) → AreSeen (seen_in hot) parcel.now seen.now → IfOk result (IsFresh parcel.now (new_pairs hot parcel.now)) }
 {
-    let places = new_places(alloc, parcel, left_out)?;
+    let places = new_places(alloc, parcel, seen)?;
     if places.is_empty() {
         return Ok(Fresh::Nothing);
     }
@@ -55,16 +86,16 @@ pub(crate) fn fresh_blocks(
 fn new_places(
     alloc: Global,
     parcel: &Parcel,
-    left_out: &[bool; PUT_BLOCKS],
+    seen: &[Seen; PUT_BLOCKS],
 ) -> Result<Vec<usize>, NoMemory>
     requires { length parcel.now ≤ PUT_BLOCKS }
     ensures within { IfOk result (λ found. All (λ i. i < length parcel.now) found.items) }
-    ensures new { (hot : CidSet) → AreNoted (is_left_out hot) parcel.now left_out.now → IfOk result (λ found. ArePairsAt parcel.now found.items (new_pairs hot parcel.now)) }
+    ensures new { (hot : CidSet) → AreSeen (seen_in hot) parcel.now seen.now → IfOk result (λ found. ArePairsAt parcel.now found.items (new_pairs hot parcel.now)) }
 {
     let mut met = BTreeSet::new(alloc);
     let mut places = Vec::new(alloc);
     for i in 0..parcel.len() {
-        if left_out[i] {
+        if !seen[i].is_absent() {
             continue;
         }
         let (cid, _) = parcel.at(i);

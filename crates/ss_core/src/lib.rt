@@ -17,6 +17,7 @@
 
 mod blocks;
 mod fault;
+mod found;
 mod fresh;
 pub mod laws;
 mod split_core;

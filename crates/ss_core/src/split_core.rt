@@ -1,6 +1,6 @@
 //! The store over its disk.
 
-ghost use Rattle.std.specs.Prelude.{◌≡◌, ◌+◌, ◌^◌, ◌<◌, ◌≤◌, List, length, false, Err, None, Option, IsTrue, IsOk, IfOk, IfErr, OnOk, option_map};
+ghost use Rattle.std.specs.Prelude.{◌≡◌, ◌+◌, ◌^◌, ◌<◌, ◌≤◌, List, length, false, Err, None, Option, IsTrue, IfOk, IfErr, OnOk, option_map};
 ghost use Rattle.std.specs.FinMap as finite_map;
 ghost use Rattle.std.specs.FinSet as finite_set;
 ghost use Rattle.ss_core.specs.LogFiles.{hot_file};
@@ -48,17 +48,14 @@ pub struct SplitCore<D: Disk> {
 }
 
 impl<D: Disk> SplitCore<D> {
-    ghost use Rattle.ss_device.specs.Calls.{TouchesFiles};
-    ghost use Rattle.ss_gatelog.specs.GateLog.{CountsFault};
     ghost use Rattle.ss_store.specs.declared.fault.StoreFault.TheVariants as fault;
-    ghost use Rattle.ss_hot.specs.Store.{Keeps, SameButDoubt};
+    ghost use Rattle.ss_hot.specs.Store.{Keeps};
     ghost use Rattle.ss_model.specs.State.{State};
     ghost use Rattle.ss_model.specs.declared.call.Call.TheVariants as call_kind;
     ghost use Rattle.ss_model.specs.declared.call.Answer.TheVariants as answer;
     ghost use Rattle.ss_core.specs.Calls.{Steps, Makes, OpensView};
-    ghost use Rattle.ss_core.specs.Replies.{Settles, held_len, held_count};
+    ghost use Rattle.ss_core.specs.Replies.{Settles, StillStands, held_len, held_count};
     ghost use Rattle.ss_core.specs.StandsFor.{Doubt, no_doubt, IsLeftBy, StandsFor};
-    ghost use Rattle.ss_core.specs.LogFiles.{log_files};
 
     /// The store of these parts, in which no view is open. The disk is not called.
     ///
@@ -169,14 +166,8 @@ impl<D: Disk> SplitCore<D> {
 
     // Settles a log in doubt: the record that was in doubt does not count. The disk is called for no other log.
     fn settle(&mut self) -> Result<(), StoreFault>
-        ensures told { IsTrue D.told → (s : State) (doubt : Doubt) → StandsFor self.old s doubt → Settles self.old self.new s doubt result }
-        ensures same { SameButDoubt self.old.hot self.new.hot }
-        ensures views { self.new.views ≡ self.old.views }
-        ensures sure { self.old.hot.log.unsure ≡ false → IsOk result × (self.new.hot ≡ self.old.hot) × (self.new.disk ≡ self.old.disk) }
-        ensures settled { OnOk result (self.new.hot.log.unsure ≡ false) }
-        ensures errors { (e : StoreFault) → result ≡ Err e → e ≡ fault.DiskFault }
-        ensures counts { CountsFault fault.DiskFault (D.faults self.old.disk) (D.faults self.new.disk) result }
-        ensures touches { TouchesFiles D.Disk log_files self.old.disk self.new.disk }
+        ensures told { IsTrue D.told → (s : State) (doubt : Doubt) → StandsFor self.old s doubt → StillStands self.old self.new s doubt result }
+        ensures settled { Settles self.old self.new result }
     {
         self.hot.settle(&mut self.disk)
     }

@@ -15,10 +15,10 @@ use ss_model::HeadReply;
 use std::alloc::Global;
 
 /// The most headers that a tipset has.
-const MAX_HEADERS: usize = 64;
+pub(crate) const MAX_HEADERS: usize = 64;
 
 /// What the other headers of a tipset are compared with.
-#[derive(Debug, Drop)]
+#[derive(Drop)]
 pub(crate) struct FirstHeader {
     /// The height of the first header, in epochs.
     pub height: u64,

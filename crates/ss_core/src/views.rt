@@ -9,7 +9,7 @@ use std::marker::Model;
 const VIEWS: usize = ss_model::VIEWS as usize;
 
 /// The open views: a set of numbers below 1024. It takes no memory.
-#[derive(Debug, Drop)]
+#[derive(Drop)]
 pub(crate) struct Views {
     open: [bool; VIEWS],
 }

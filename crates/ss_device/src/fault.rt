@@ -6,7 +6,7 @@ use std::error::Error;
 use std::fmt;
 
 /// The disk did not do what it was asked to do, and its count of faults rose.
-#[derive(Clone, Copy, Debug, PartialEq, Eq, Hash)]
+#[derive(Clone, Copy, Debug, PartialEq, Eq)]
 pub struct DiskFault;
 
 impl fmt::Display for DiskFault {
@@ -27,7 +27,7 @@ pub fn count(faults: &mut u64) -> DiskFault
 }
 
 /// There was not enough memory.
-#[derive(Clone, Copy, Debug, PartialEq, Eq, Hash)]
+#[derive(Clone, Copy, Debug, PartialEq, Eq)]
 pub struct NoMemory;
 
 impl fmt::Display for NoMemory {

@@ -1,15 +1,15 @@
 -- What synced writes do to the images of a log.
-use Rattle.std.proofs.Common.{◌≡◌, ◌≢◌, inl, inr, ⊎_elim, ℕ, ◌+◌, ◌<◌, ◌≤◌, ◌^◌, Bool, true, false, IsTrue, List, [], ◌∷◌, ◌++◌, length, refl, sym, ◌∙◌, ap, subst, arith}
+use Rattle.std.proofs.Common.{◌≡◌, ◌≢◌, inl, inr, ⊎_elim, ℕ, ◌+◌, ◌<◌, ◌≤◌, ◌^◌, Bool, true, false, true≢false, IsTrue, List, [], ◌∷◌, ◌++◌, length, refl, sym, ◌∙◌, ap, subst, arith}
 use Rattle.std.specs.Prelude.{slice_range, MatchBool, Result, Ok, Err, OnOk, OnErr}
 use Rattle.std.proofs.lemmas.Bool.Decides.{when_true, when_false}
 use Rattle.ss_device.specs.declared.disk.Disk.{Ghosts}
-use Rattle.ss_device.specs.Disk.{Files, Holds, Torn, Same, Changes, Evolves}
-use Rattle.ss_device.specs.Calls.{Goes, Leaves}
+use Rattle.ss_device.specs.Disk.{Files, Holds, Torn, Same, Changes, Evolves, Rose}
+use Rattle.ss_device.specs.Calls.{Goes, Touches, Leaves}
 use Rattle.ss_device.proofs.Moments.{now_from}
 use Rattle.ss_device.proofs.Moments as moments
-use Rattle.ss_device.proofs.Goes.{widens, leaves, leaves_on}
+use Rattle.ss_device.proofs.Goes.{widens, leaves, leaves_on, leaves_none, touches_none}
 use Rattle.ss_gatelog.specs.Log.{open_gate, longest_body, length_bytes, spelled, AreBodies, Spells, IsShort, InDoubt, HasList, HasRecords}
-use Rattle.ss_gatelog.specs.GateLog.{Log, IsSure, IsDoubted, Stands, HasEither, Opens}
+use Rattle.ss_gatelog.specs.GateLog.{Log, IsSure, IsDoubted, Stands, HasEither, Settled, KeepsSettled, Opens}
 use Rattle.ss_gatelog.proofs.Bytes.{length_bytes-injective}
 use Rattle.ss_gatelog.proofs.Steps.{Staged, bodies_push, length-spelled-push, spells_behind, staged, staged_doubt, staged_opened, doubt_again, doubt_closed, doubt_either, restart_doubt, emptied, short_stays, has_list, length-spelled-at, length_at}
 
@@ -133,16 +133,86 @@ module _ {D : Type 0} (disk : Ghosts D) where
   pub first_closed : (file limit : ℕ) (old new : D) → Durable file 0 (0 ∷ []) old new → IsSure disk new (record { file = file; limit = limit; end = 0; unsure = false }) []
   first_closed file limit old new durable = record { each = λ left image. emptied (disk.files old file) (left file) (durable left image); end = refl; bodies = tt }
 
-  -- the same of a log that stands for its list or, where it is unsure, for one of two
-  module _ (log : Log) (front more : List (List ℕ)) (old new : D) (unsure : log.unsure ≡ true) (stands : Stands disk old log front more) (wrote : Wrote log.file log.end 1 old new) where
-    abbrev doubted : IsDoubted disk old log front more
-    doubted = when_true (IsDoubted disk old log front more) (IsSure disk old log front) unsure stands
+  -- a log ends after its records, whether it is sure or not
+  pub stands_end : (now : D) (log : Log) (front more : List (List ℕ)) → Stands disk now log front more → log.end ≡ length (spelled front)
+  stands_end now log front more stands = at log.unsure stands
+    where
+      at : (b : Bool) → MatchBool b (IsDoubted disk now log front more) (IsSure disk now log front) → log.end ≡ length (spelled front)
+      at true doubt = doubt.end
+      at false sure = sure.end
 
-    pub settle_left : Stands disk new log front more
-    settle_left = subst (λ (b : Bool). MatchBool b (IsDoubted disk new log front more) (IsSure disk new log front)) (sym unsure) (still_doubt log front more old new doubted wrote)
+  -- what a log stands for that is not written to
+  pub stands_leaves : (now : D) (log : Log) (front more : List (List ℕ)) → log.end < log.limit → Stands disk now log front more → Leaves disk log.file (HasEither log.limit front more) now now
+  stands_leaves now log front more within stands = leaves_none disk log.file (HasEither log.limit front more) now (λ left image. at left image log.unsure refl)
+    where
+      at : (left : Files) → disk.image now (disk.moment now) left → (b : Bool) → log.unsure ≡ b → HasEither log.limit front more (left log.file)
+      at left image true is =
+          let doubt = when_true (IsDoubted disk now log front more) (IsSure disk now log front) is stands in
+          ⊎_elim
+          (λ first. inl (has_list log.limit front (left log.file) doubt.bodies (omega (arith, within, doubt.end)) first))
+          (λ second. inr (has_list log.limit more (left log.file) doubt.more_bodies doubt.more_within second))
+          (doubt_either front more (left log.file) (doubt.each left image))
+      at left image false is =
+          let sure = when_false (IsDoubted disk now log front more) (IsSure disk now log front) is stands in
+          inl (has_list log.limit front (left log.file) sure.bodies (omega (arith, within, sure.end)) (sure.each left image))
 
-    pub settle_leaves : log.end < log.limit → Leaves disk log.file (HasEither log.limit front more) old new
-    settle_leaves within = doubt_leaves log front more old new doubted wrote within
+  -- a settling of a log that is sure
+  pub sure_keeps : {E : Type 0} (now : D) (log : Log) (front more : List (List ℕ)) → log.unsure ≡ false → log.end < log.limit → Stands disk now log front more → KeepsSettled {E = E} disk now now log log front more (Ok tt)
+  sure_keeps now log front more sure within stands = record {
+    settled = when_false (IsDoubted disk now log front more) (IsSure disk now log front) sure stands;
+    unsettled = tt;
+    stops = stands_leaves now log front more within stands;
+  }
+
+  pub sure_settled : {E : Type 0} (fault : E) (now : D) (log : Log) → log.unsure ≡ false → Settled disk now now log log fault (Ok tt)
+  sure_settled fault now log sure = record {
+    sure = λ _. (refl, refl, refl);
+    ok = ap (λ (b : Bool). record log { unsure = b }) sure;
+    err = tt;
+    errors = λ e is. let differ : ⊥ = cc in absurd differ;
+    counts = record { later = omega arith; rose = λ is. let differ : ⊥ = cc in absurd differ; kept = inr refl };
+    touches = touches_none disk log.file now;
+  }
+
+  -- a settling of one in doubt, by a write of its gate
+  module _ (log : Log) (unsure : log.unsure ≡ true) (old new : D) where
+    module _ (front more : List (List ℕ)) (stands : Stands disk old log front more) (wrote : Wrote log.file log.end 1 old new) where
+      abbrev doubted : IsDoubted disk old log front more
+      doubted = when_true (IsDoubted disk old log front more) (IsSure disk old log front) unsure stands
+
+      pub failed_keeps : {E : Type 0} (e : E) → log.end < log.limit → KeepsSettled disk old new log log front more (Err e)
+      failed_keeps e within = record {
+        settled = tt;
+        unsettled = subst (λ (b : Bool). MatchBool b (IsDoubted disk new log front more) (IsSure disk new log front)) (sym unsure) (still_doubt log front more old new doubted wrote);
+        stops = doubt_leaves log front more old new doubted wrote within;
+      }
+
+      pub done_keeps : {E : Type 0} → log.end < log.limit → disk.image old (disk.moment old) (disk.files old) → Durable log.file log.end (0 ∷ []) old new → KeepsSettled {E = E} disk old new log (record log { unsure = false }) front more (Ok tt)
+      done_keeps within reads durable = record {
+        settled = record { each = doubt_settled log front more old new doubted wrote reads durable; end = doubted.end; bodies = doubted.bodies };
+        unsettled = tt;
+        stops = doubt_leaves log front more old new doubted wrote within;
+      }
+
+    pub failed_settled : {E : Type 0} (fault : E) → Rose (disk.faults old) (disk.faults new) → Touches disk log.file old new → Settled disk old new log log fault (Err fault)
+    failed_settled fault rose touches = record {
+      sure = λ sure. absurd (true≢false (sym unsure ∙ sure));
+      ok = tt;
+      err = refl;
+      errors = λ e is. cc;
+      counts = record { later = touches.faults; rose = λ _. rose; kept = inl refl };
+      touches = touches;
+    }
+
+    pub done_settled : {E : Type 0} (fault : E) → disk.faults new ≡ disk.faults old → Touches disk log.file old new → Settled disk old new log (record log { unsure = false }) fault (Ok tt)
+    done_settled fault kept touches = record {
+      sure = λ sure. absurd (true≢false (sym unsure ∙ sure));
+      ok = refl;
+      err = tt;
+      errors = λ e is. let differ : ⊥ = cc in absurd differ;
+      counts = record { later = touches.faults; rose = λ is. let differ : ⊥ = cc in absurd differ; kept = inr kept };
+      touches = touches;
+    }
 
 -- a sure log stands for its list
 pub stands_sure : {D : Type 0} (disk : Ghosts D) (now : D) (log : Log) (front more : List (List ℕ)) → log.unsure ≡ false → IsSure disk now log front → Stands disk now log front more
@@ -202,16 +272,16 @@ module _ {D : Type 0} (disk : Ghosts D) (file : ℕ) where
   opens_reading read old new goes = widens disk old new Same (Changes file (Opens read)) goes (opens_same read)
 
   -- each image of the file is this
-  abbrev pub Settled : List ℕ → D → Type 0
-  Settled read now = (left : Files) → disk.image now (disk.moment now) left → left file ≡ read
+  abbrev pub IsSynced : List ℕ → D → Type 0
+  IsSynced read now = (left : Files) → disk.image now (disk.moment now) left → left file ≡ read
 
-  pub settled_on : (read : List ℕ) (old new : D) → IsTrue disk.told → Goes disk Same old new → Settled read old → Settled read new
+  pub settled_on : (read : List ℕ) (old new : D) → IsTrue disk.told → Goes disk Same old new → IsSynced read old → IsSynced read new
   settled_on read old new told goes settled left image =
       let from = now_from _ _ _ _ _ (goes.images told) left image in
       ap (λ (f : Files). f file) from.2 ∙ settled from.0 from.1
 
   -- a closed gate was written to a file of no more than a byte
-  pub opens_short : (old mid new : D) → Goes disk Same old mid → Goes disk (Changes file (Torn 0 1)) mid new → (IsTrue disk.told → IsShort (disk.files old file)) → (IsTrue disk.told → Settled (disk.files old file) mid) → Goes disk (Changes file (Opens (disk.files old file))) old new
+  pub opens_short : (old mid new : D) → Goes disk Same old mid → Goes disk (Changes file (Torn 0 1)) mid new → (IsTrue disk.told → IsShort (disk.files old file)) → (IsTrue disk.told → IsSynced (disk.files old file) mid) → Goes disk (Changes file (Opens (disk.files old file))) old new
   opens_short old mid new first second short settled = record {
     files = λ told. record {
       here = inr (short told, short_stays (disk.files mid file) (disk.files new file) (subst IsShort (sym (ap (λ (f : Files). f file) (first.files told))) (short told)) (second.files told).here);
@@ -229,7 +299,7 @@ module _ {D : Type 0} (disk : Ghosts D) (file : ℕ) where
   }
 
   -- the walk found the list of a file that is settled
-  pub opens_list : (limit end : ℕ) (read : List ℕ) (now : D) → Settled read now → (records : List (List ℕ)) × HasRecords limit read records × (end ≡ length (spelled records))
+  pub opens_list : (limit end : ℕ) (read : List ℕ) (now : D) → IsSynced read now → (records : List (List ℕ)) × HasRecords limit read records × (end ≡ length (spelled records))
       → (records : List (List ℕ)) × HasList limit read records × IsSure disk now (record { file = file; limit = limit; end = end; unsure = false }) records
   opens_list limit end read now settled found = (
     found.0,

@@ -7,7 +7,7 @@ use std::error::Error;
 use std::fmt;
 
 /// Why a call of a log failed.
-#[derive(Clone, Copy, Debug, PartialEq, Eq, Hash)]
+#[derive(Clone, Copy, Debug, PartialEq, Eq)]
 pub enum LogFault {
     /// The disk's count of faults rose.
     DiskFault,
@@ -41,7 +41,7 @@ impl From<ss_device::DiskFault> for LogFault {
 }
 
 /// Why the records of a file were not read on.
-#[derive(Clone, Copy, Debug, PartialEq, Eq, Hash)]
+#[derive(Clone, Copy, Debug, PartialEq, Eq)]
 pub enum RecordsFault {
     /// There was not enough memory for a record.
     NoMemory,

@@ -6,7 +6,7 @@ ghost use Rattle.ss_gatelog.specs.Gate.{LeadTo, IsPiece, IsGate, IsGateWithin, I
 use crate::frame::{HEAD, LONGEST_BODY, OPEN, length_of};
 
 /// What stands at a gate.
-#[derive(Clone, Copy, Debug, PartialEq, Eq)]
+#[derive(Clone, Copy, PartialEq, Eq)]
 pub(crate) enum Gate {
     Closed,
     /// An open gate after which no record fits.
@@ -18,7 +18,7 @@ pub(crate) enum Gate {
 }
 
 /// What the first bytes of a record are.
-#[derive(Clone, Copy, Debug, PartialEq, Eq)]
+#[derive(Clone, Copy, PartialEq, Eq)]
 pub(crate) enum Header {
     Closed,
     Open { length: u32 },

@@ -36,7 +36,7 @@ impl Model for GateLog {
 }
 
 impl GateLog {
-    ghost use Rattle.ss_gatelog.specs.GateLog.{IsSure, Stands, HasEither, Opens, body_of};
+    ghost use Rattle.ss_gatelog.specs.GateLog.{IsSure, Stands, HasEither, Settled, KeepsSettled, Opens, body_of};
 
     /// Makes the file an empty log. A log takes no more than `limit` bytes of its file.
     ///
@@ -103,15 +103,8 @@ impl GateLog {
     /// `DiskFault`: the gate is still in doubt.
     pub fn settle<D: Disk>(&mut self, disk: &mut D) -> Result<(), LogFault>
         requires { self.old.end + 1 ≤ D.known disk.old self.old.file }
-        ensures sure { self.old.unsure ≡ false → IsOk result × (self.new ≡ self.old) × (disk.new ≡ disk.old) }
-        ensures ok { OnOk result (self.new ≡ record self.old { unsure = false }) }
-        ensures err { OnErr result (self.new ≡ self.old) }
-        ensures settled { (front more : List (List ℕ)) → IsTrue D.told → Stands D.Disk disk.old self.old front more → OnOk result (IsSure D.Disk disk.new self.new front) }
-        ensures unsettled { (front more : List (List ℕ)) → IsTrue D.told → Stands D.Disk disk.old self.old front more → OnErr result (Stands D.Disk disk.new self.new front more) }
-        ensures stops { (front more : List (List ℕ)) → IsTrue D.told → Stands D.Disk disk.old self.old front more → Leaves D.Disk self.old.file (HasEither self.old.limit front more) disk.old disk.new }
-        ensures touches { Touches D.Disk self.old.file disk.old disk.new }
-        ensures fault { IsErr result → result ≡ Err LogFault.DiskFault }
-        ensures cause { HasCause (D.faults disk.old) (D.faults disk.new) result }
+        ensures told { (front more : List (List ℕ)) → IsTrue D.told → Stands D.Disk disk.old self.old front more → KeepsSettled D.Disk disk.old disk.new self.old self.new front more result }
+        ensures settled { Settled D.Disk disk.old disk.new self.old self.new LogFault.DiskFault result }
     {
         if !self.unsure {
             return Ok(());
@@ -221,6 +214,14 @@ impl GateLog {
     {
         disk.read(self.file, at, out)?;
         Ok(())
+    }
+
+    /// How many bytes the next record may take, its gate and length included.
+    pub fn room(&self) -> u64
+        ensures room { result ≡ self.now.limit - 1 - self.now.end }
+        ensures within { self.now.end < self.now.limit }
+    {
+        self.limit - 1 - self.end
     }
 
     /// The number of the log's file.

@@ -14,7 +14,7 @@ use ss_device::Disk;
 const PIECE: usize = 4096;
 
 /// Where a walk ended.
-#[derive(Clone, Copy, Debug, PartialEq, Eq)]
+#[derive(Clone, Copy, PartialEq, Eq)]
 pub(crate) enum Reached {
     /// A closed gate.
     Closed { at: u64 },

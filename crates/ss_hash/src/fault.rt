@@ -5,7 +5,7 @@ use std::error::Error;
 use std::fmt;
 
 /// Why a block's bytes are not valid for its CID.
-#[derive(Clone, Copy, Debug, PartialEq, Eq, Hash)]
+#[derive(Clone, Copy, Debug, PartialEq, Eq)]
 pub enum HashFault {
     /// The CID's hash function, by its number in the multicodec table, is none of identity, sha2-256 and
     /// blake2b-256, or is one of the latter two and the digest does not have 32 bytes.

@@ -1,4 +1,4 @@
--- A file with settings has a list of records, or a first record at fault.
+-- A file with settings has a list of records, or a first invalid record.
 use Rattle.std.proofs.Common.{◌≡◌, ◌⊎◌, inl, inr, ⊎_elim, ℕ, zero, suc, ◌+◌, ◌<◌, ◌≤◌, List, [], ◌∷◌, ◌++◌, length, drop, refl, sym, ◌∙◌, ap, subst, arith}
 use Rattle.std.proofs.lemmas.Bool.{cases_eq}
 use Rattle.ss_records.specs.declared.record.Config.{Config as Settings}
@@ -10,14 +10,15 @@ use Rattle.ss_records.proofs.Records.{read_takes}
 use Rattle.ss_gatelog.specs.Log.{open_gate, length_bytes, spelled, AreBodies, Fits as FitsGate}
 use Rattle.ss_gatelog.proofs.Steps.{spelled-push, length-spelled-push, bodies_push}
 use Rattle.ss_store.specs.Append.{bodies}
+use Rattle.ss_store.proofs.Appended.{bodies-push}
 use Rattle.ss_hot.specs.Half.{IsInPlace, AreInPlace}
 use Rattle.ss_hot.specs.Half.{HasSettings, IsHalf, IsBad, IsDamagedHalf}
-use Rattle.ss_hot.proofs.Grown.{bodies-push, AreInPlace-push}
+use Rattle.ss_hot.proofs.Grown.{AreInPlace-push}
 use Rattle.ss_hot.proofs.Misfits.{read_or_misfit, fits_or_not, fit_body}
 use Rattle.ss_hot.proofs.Readings.{long_file}
 use Rattle.ss_hot.proofs.Settings.{second_part}
 
--- good records at the front of a file, and what stands behind them
+-- valid records at the start of a file, and what stands after them
 record IsFront (limit : ℕ) (file : List ℕ) (front : List Record) (rest : List ℕ) : Type 0 where
   is : file ≡ spelled (bodies front) ++ rest
   are : AreBodies (bodies front)
@@ -50,7 +51,7 @@ module _ (file : List ℕ) (settings : Settings) (committed : HasSettings file s
   abbrev Reading : Type 0
   Reading = ((records : List Record) × IsHalf file settings records) ⊎ ((at : ℕ) × IsDamagedHalf file at)
 
-  -- an open gate behind good records
+  -- an open gate after valid records
   module _ (front : List Record) (rest : List ℕ) (leads : IsFront settings.limit file front (open_gate ∷ rest)) where
     abbrev at : ℕ
     at = length (spelled (bodies front))

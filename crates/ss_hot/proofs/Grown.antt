@@ -15,10 +15,6 @@ use Rattle.ss_store.specs.Append.{bodies}
 use Rattle.ss_hot.specs.Half.{MayStand, IsInPlace, AreInPlace, settings_from, settings_of, head_from, base_from, places_after, places_from, hot_places}
 use Rattle.ss_hot.specs.Store.{Hot, Tells}
 
-pub bodies-push : (rs : List Record) (r : Record) → bodies (rs ++ r ∷ []) ≡ bodies rs ++ spelling r ∷ []
-bodies-push [] r = refl
-bodies-push (q ∷ rs) r = ap (λ (l : List (List ℕ)). spelling q ∷ l) (bodies-push rs r)
-
 pub length-frame : (body : List ℕ) → length (frame body) ≡ 5 + length body
 length-frame body = omega (arith, length-append body (0 ∷ []))
 
@@ -80,7 +76,7 @@ places_from-push file held at (q ∷ rs) r =
     places_from-push file (places_after file held at q) (at + 5 + length (spelling q)) rs r
     ∙ ap (λ (n : ℕ). places_after file (places_from file (places_after file held at q) (at + 5 + length (spelling q)) rs) n r) size
 
--- a record that stands behind the settings
+-- a record that stands after the settings
 abbrev pub IsLater : Record → Type 0
 IsLater r = MayStand 2 r
 
@@ -125,7 +121,7 @@ no_settings (Sealed total) c stands told = absurd stands
 no_settings (Copied up_to) c stands told = absurd stands
 no_settings (Purged up_to) c stands told = absurd stands
 
--- behind records that tell the settings a later one may stand
+-- after records that tell the settings a later one may stand
 stands_behind : (rs : List Record) (r : Record) (c : Settings) → AreInPlace 0 rs → settings_of rs ≡ Some c → IsLater r → MayStand (length rs) r
 stands_behind [] r c are told later = absurd (let differ : ⊥ = cc in differ)
 stands_behind (q ∷ []) r c are told later = absurd (no_settings q c are.0.may_stand told)
@@ -137,7 +133,7 @@ AreInPlace-push n (q ∷ rs) r are one =
     let next : n + length (q ∷ rs) ≡ suc n + length rs = omega arith in
     (are.0, AreInPlace-push (suc n) rs r are.1 (subst (λ (k : ℕ). IsInPlace k r) next one))
 
--- the store behind a record, where its log is this one
+-- the store after a record, where its log is this one
 abbrev pub next : Hot → Log → Record → Hot
 next store log r = record { settings = store.settings; log = log; places = places_after store.log.file store.places store.log.end r; head = head_from store.head (r ∷ []); base = base_from store.base (r ∷ []) }
 

@@ -1,4 +1,4 @@
--- Which body stands behind an open gate, and whether it is that of a record which may stand there.
+-- Which body stands after an open gate, and whether it is that of a record which may stand there.
 use Rattle.std.proofs.Common.{◌≡◌, ◌⊎◌, inl, inr, ⊎_elim, ℕ, zero, suc, ◌+◌, ◌<◌, ◌≤◌, List, ◌++◌, length, take, drop, refl, sym, ◌∙◌, ap, subst, arith, length-drop, take-append-drop}
 use Rattle.std.specs.Prelude.{Result, Ok, Err}
 use Rattle.std.specs.Int.{w32, from_be_bytes}
@@ -17,7 +17,7 @@ use Rattle.ss_hot.specs.Half.{MayStand, IsInPlace}
 use Rattle.ss_hot.specs.Opening.{IsMisfit}
 use Rattle.ss_hot.proofs.Readings.{one_result}
 
--- a record may stand at a place or not
+-- a record may stand at an index or not
 stands_or_not : (n : ℕ) (r : Record) → MayStand n r ⊎ (MayStand n r → ⊥)
 stands_or_not zero (Generation k) = inl tt
 stands_or_not (suc zero) (Config c) = inl tt
@@ -27,7 +27,7 @@ stands_or_not (suc (suc n)) (Head height cids) = inl tt
 stands_or_not (suc (suc n)) (Base base ended) = inl tt
 stands_or_not n r = inr (λ stands. stands)
 
--- bytes are the spelling of a record that may be read at a place, or misfit there
+-- bytes are the spelling of a record that may be read at an index, or misfit there
 pub read_or_misfit : (n : ℕ) (body : List ℕ) → IsBytes body → ((r : Record) × (body ≡ spelling r) × IsInPlace n r) ⊎ IsMisfit n body
 read_or_misfit n body small = by_reading (read_record body) refl
   where
@@ -41,7 +41,7 @@ read_or_misfit n body small = by_reading (read_record body) refl
         (λ not. inr (λ s reads stands. not (subst (MayStand n) (one_result s r (read_record body) reads is) stands)))
         (stands_or_not n r)
 
--- a body of this length behind the four bytes of its length, and what stands behind it
+-- a body of this length after the four bytes of its length, and what stands after it
 pub record BodyAt (n : ℕ) (rest : List ℕ) : Type 0 where
   pub body : List ℕ
   pub more : List ℕ

@@ -19,18 +19,18 @@ use Rattle.ss_records.specs.declared.record.Record.{Record}
 use Rattle.ss_records.specs.declared.record.Record.TheVariants.{Config}
 use Rattle.ss_records.specs.Fields.{read_record}
 use Rattle.ss_store.specs.Append.{bodies}
+use Rattle.ss_store.proofs.Appended.{bodies-push}
 use Rattle.ss_hot.specs.declared.store.opening.Opening.{Opening}
 use Rattle.ss_hot.specs.declared.store.walk.Walk.{Walk}
 use Rattle.ss_hot.specs.Half.{AreInPlace, hot_places}
 use Rattle.ss_hot.specs.Half.{HasSettings, IsHalf, IsFaulty}
 use Rattle.ss_hot.specs.Store.{Keeps}
 use Rattle.ss_hot.specs.Opening.{Gathers, IsRead, IsMisfit, HasRead, OpensSame}
-use Rattle.ss_hot.proofs.Grown.{bodies-push}
 use Rattle.ss_hot.proofs.Passed.{gathers_on}
 use Rattle.ss_hot.proofs.Readings.{long_file}
 use Rattle.ss_hot.proofs.Settings.{tells_settings}
 
--- rows of one length at the front of a file are one
+-- rows of one length at the start of a file are one
 pub row_same : (rs bs : List (List ℕ)) (file x y : List ℕ) → AreBodies rs → AreBodies bs → file ≡ spelled rs ++ x → file ≡ spelled bs ++ y → length (spelled rs) ≡ length (spelled bs) → (rs ≡ bs) × (x ≡ y)
 row_same rs bs file x y rs_are bs_are is is' same = ⊎_elim
     (λ both. both)
@@ -40,7 +40,7 @@ row_same rs bs file x y rs_are bs_are is is' same = ⊎_elim
     other))
     (compared rs bs x y rs_are bs_are (sym is ∙ is'))
 
--- ---- the first record at fault
+-- ---- the first invalid record
 
 -- a record after good ones that is not to stand there
 pub faulty_misfit : (limit at next : ℕ) (file : List ℕ) (front : List Record) (body : List ℕ) → LeadTo limit file (bodies front ++ body ∷ []) next → next < length file → length body ≤ longest_body → AreBodies (bodies front) → AreInPlace 0 front → at ≡ length (spelled (bodies front)) → IsMisfit (length front) body

@@ -37,7 +37,7 @@ reads_put body r small put read =
       fits = subst Fits found.1 takes.2;
     }
 
--- a Put stands behind the settings
+-- a Put stands after the settings
 early : (n : ℕ) (blocks : List (List ℕ × List ℕ)) → n < 2 → MayStand n (Put blocks) → ⊥
 early zero blocks few stands = stands
 early (suc zero) blocks few stands = stands

@@ -1,4 +1,4 @@
--- A file has one setting and one list of records, or is damaged at one place.
+-- A file has one setting and one list of records, or is damaged at one offset.
 use Rattle.std.proofs.Common.{◌≡◌, ⊎_elim, ℕ, suc, ◌+◌, ◌<◌, List, [], ◌∷◌, ◌++◌, length, refl, sym, ◌∙◌, ap, subst, arith, append_assoc, length-append}
 use Rattle.std.specs.Prelude.{Result, Ok}
 use Rattle.std.proofs.lemmas.List.{length-map}
@@ -19,7 +19,7 @@ use Rattle.ss_hot.specs.Half.{HasSettings, IsHalf, IsBad, IsFaulty, IsDamagedHal
 pub one_result : (r s : Record) (read : Result Record ℕ) → read ≡ Ok r → read ≡ Ok s → r ≡ s
 one_result r s read is is' = cc
 
--- a row of two bodies goes on behind no other row of two
+-- a row of two bodies goes on after no other row of two
 two_bodies : (p q s t : List ℕ) (x y : List ℕ) → GoesOn (p ∷ q ∷ []) (s ∷ t ∷ []) x y → ⊥
 two_bodies p q s t x y on = omega (arith, ap (length {A = List ℕ}) on.is)
 
@@ -72,7 +72,7 @@ records_once file a b r s half half' =
     let list : HasList a.limit file (bodies s) = subst (λ (c : Settings). HasList c.limit file (bodies s)) (sym same) half'.list in
     bodies_once 0 0 r s half.in_place half'.in_place (one_list a.limit file (bodies r) (bodies s) half.list list)
 
--- a record that may stand at a place, by its body
+-- a record that may stand at an index, by its body
 record StandsAt (n : ℕ) (body : List ℕ) : Type 0 where
   of : Record
   is : body ≡ spelling of
@@ -95,7 +95,7 @@ bad_stands : (limit n at : ℕ) (rest : List ℕ) (bad : IsBad limit n at rest) 
 bad_stands limit n at rest bad stands =
     bad.bad stands.of (ap read_record stands.is ∙ read_again stands.of stands.in_place.value stands.in_place.fits) stands.in_place.may_stand
 
--- no row of records in their places stands at the front of a file with a bad record, unless it ends before that record
+-- no row of valid records stands at the start of a file with a bad record, unless it ends before that record
 bad_ends : (limit at : ℕ) (file rest y : List ℕ) (front records : List Record) → file ≡ spelled (bodies front) ++ open_gate ∷ rest → AreBodies (bodies front) → (bad : IsBad limit (length front) at rest)
     → AreInPlace 0 records → AreBodies (bodies records) → file ≡ spelled (bodies records) ++ y → (GoesOn (bodies records) (bodies front ++ bad.body ∷ []) y bad.more → ⊥) → ⊥
 bad_ends limit at file rest y front records is front_are bad in_place are whole ends = ⊎_elim
@@ -113,7 +113,7 @@ bad_ends limit at file rest y front records is front_are bad in_place are whole 
     stands more same =
         bad_stands limit (length front) at rest bad (body_stands 0 (length front) records (bodies front) more bad.body in_place same (omega (arith, length-map front spelling)))
 
--- a file with a record at fault is no half
+-- a file with an invalid record is no half
 half_or_faulty : (file : List ℕ) (at : ℕ) (settings : Settings) (records : List Record) → IsFaulty settings.limit file at → IsHalf file settings records → ⊥
 half_or_faulty file at settings records faulty half = ⊎_elim
     (λ unfit. list_or_damaged settings.limit file (bodies records) at half.list (record {
@@ -144,7 +144,7 @@ apart file at settings records damaged half =
     let same = settings_once file damaged.settings settings damaged.committed half.committed in
     half_or_faulty file at settings records (subst (λ (c : Settings). IsFaulty c.limit file at) same damaged.damage) half
 
--- of two records at fault none stands behind the other
+-- of two first invalid records none stands after the other
 fault_ends : (limit at at' : ℕ) (file : List ℕ) (d : IsFaulty limit file at) (e : IsFaulty limit file at') → GoesOn (bodies d.front) (bodies e.front) (open_gate ∷ d.rest) (open_gate ∷ e.rest) → ⊥
 fault_ends limit at at' file d e on = ⊎_elim
     (λ unfit. unfit_ends limit at (bodies d.front) (bodies e.front) d.rest (open_gate ∷ e.rest) d.place unfit e.bodies (omega (arith, e.place, e.within)) (omega arith) on)

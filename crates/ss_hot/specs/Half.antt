@@ -5,7 +5,7 @@ use Rattle.ss_store.specs.{declared.place.Place.Place, Places.{CidMap, with_pair
 use Rattle.ss_gatelog.specs.Log.{open_gate, length_bytes, spelled, AreBodies, HasList, Fits as FitsGate}
 use Rattle.std.specs.FinMap as finite_map
 
--- The record may stand at this place of a half, counted from 0: its generation, then its settings, and then what happened.
+-- The record may be the one of this index in a half, from 0: its generation, then its settings, and then what happened.
 abbrev pub MayStand : ℕ → Record → Type 0
 MayStand zero (Record.Generation n) = Unit {0}
 MayStand (suc zero) (Record.Config c) = Unit {0}
@@ -15,24 +15,24 @@ MayStand (suc (suc n)) (Record.Head height cids) = Unit {0}
 MayStand (suc (suc n)) (Record.Base base ended) = Unit {0}
 MayStand n _ = ⊥
 
--- a record that may be read at this place
+-- a record that may be read at this index
 pub record IsInPlace (n : ℕ) (r : Record) : Type 0 where
   pub fits : Fits r
   pub value : IsValue r
   pub may_stand : MayStand n r
 
--- records that may be read one after another from this place on
+-- records that may be read one after another from this index on
 abbrev pub AreInPlace : ℕ → List Record → Type 0
 AreInPlace n [] = Unit {0}
 AreInPlace n (r ∷ rs) = IsInPlace n r × AreInPlace (suc n) rs
 
--- the hot blocks behind a record
+-- the hot blocks after a record
 abbrev pub hot_after : CidMap (List ℕ) → Record → CidMap (List ℕ)
 hot_after hot (Record.Put blocks) = with_pairs hot blocks
 hot_after hot (Record.Dropped cids) = without_cids hot cids
 hot_after hot _ = hot
 
--- the hot blocks behind records
+-- the hot blocks after records
 abbrev pub hot_from : CidMap (List ℕ) → List Record → CidMap (List ℕ)
 hot_from hot [] = hot
 hot_from hot (r ∷ rs) = hot_from (hot_after hot r) rs
@@ -67,13 +67,13 @@ base_from base (_ ∷ rs) = base_from base rs
 abbrev pub base_of : List Record → ℕ × ℕ
 base_of records = base_from (0, 0) records
 
--- where the hot blocks lie behind a record whose gate is at an offset of this file
+-- where the hot blocks lie after a record whose gate is at an offset of this file
 abbrev pub places_after : ℕ → CidMap Place → ℕ → Record → CidMap Place
 places_after file held at (Record.Put blocks) = with_pairs held (map (placed file (at + 5)) (places_of (Record.Put blocks)))
 places_after file held at (Record.Dropped cids) = without_cids held cids
 places_after file held at _ = held
 
--- where they lie behind records of which the first one's gate is at an offset of the file
+-- where they lie after records of which the first one's gate is at an offset of the file
 abbrev pub places_from : ℕ → CidMap Place → ℕ → List Record → CidMap Place
 places_from file held at [] = held
 places_from file held at (r ∷ rs) = places_from file (places_after file held at r) (at + 5 + length (spelling r)) rs
@@ -81,7 +81,7 @@ places_from file held at (r ∷ rs) = places_from file (places_after file held a
 abbrev pub hot_places : ℕ → List Record → CidMap Place
 hot_places file records = places_from file finite_map.empty 0 records
 
--- Settings are committed: the first two gates are open, two records and a gate behind them are in the file, and the second is these.
+-- Settings are committed: the first two gates are open, two records and a gate after them are in the file, and the second is these.
 pub record HasSettings (file : List ℕ) (settings : Settings) : Type 0 where
   pub first : List ℕ
   pub second : List ℕ
@@ -97,7 +97,7 @@ pub record IsHalf (file : List ℕ) (settings : Settings) (records : List Record
   pub list : HasList settings.limit file (bodies records)
   pub in_place : AreInPlace 0 records
 
--- a record is whole behind a gate, and is none that may be read as the n-th
+-- a record is whole after a gate, and is none that may be read as the n-th
 pub record IsBad (limit n at : ℕ) (rest : List ℕ) : Type 0 where
   pub body : List ℕ
   pub more : List ℕ
@@ -105,7 +105,7 @@ pub record IsBad (limit n at : ℕ) (rest : List ℕ) : Type 0 where
   pub fits : FitsGate limit at rest (length body)
   pub bad : (r : Record) → read_record body ≡ Ok r → MayStand n r → ⊥
 
--- The first record at fault: good records lead up to an open gate here, behind which none fits, or one that is not to stand there.
+-- The first invalid record: valid ones lead up to an open gate here, after which none fits, or one that may not stand there.
 pub record IsFaulty (limit : ℕ) (file : List ℕ) (at : ℕ) : Type 0 where
   pub front : List Record
   pub rest : List ℕ
@@ -116,7 +116,7 @@ pub record IsFaulty (limit : ℕ) (file : List ℕ) (at : ℕ) : Type 0 where
   pub within : at < limit
   pub fault : ((n : ℕ) → FitsGate limit at rest n → ⊥) ⊎ IsBad limit (length front) at rest
 
--- The file is of a store, and is damaged at this place, which is that of the first record at fault.
+-- The file is of a store, and is damaged at this offset, where its first invalid record begins.
 pub record IsDamagedHalf (file : List ℕ) (at : ℕ) : Type 0 where
   pub settings : Settings
   pub committed : HasSettings file settings

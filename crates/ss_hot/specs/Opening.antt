@@ -3,13 +3,13 @@ use Rattle.std.specs.Prelude.{◌≡◌, ◌+◌, ◌^◌, ◌<◌, ◌≤◌, L
 use Rattle.ss_device.specs.declared.disk.Disk.{Ghosts}
 use Rattle.ss_gatelog.specs.{Log.longest_body, Gate.{HasLent, ReadsSame}}
 use Rattle.ss_records.specs.{declared.record.Record.Record, Record.spelling, Fields.read_record}
-use Rattle.ss_store.specs.{Append.bodies, declared.place.Place.Place, Places.CidMap}
+use Rattle.ss_store.specs.{Append.bodies, declared.place.Place.Place, Places.{CidMap, LiesBefore}}
 use Rattle.ss_hot.specs.{declared.store.opening.Opening.Opening, declared.store.walk.Walk.Walk, Half.{MayStand, IsInPlace, AreInPlace, settings_from, places_after, hot_places, head_from, head_of, base_from, base_of}}
 use Rattle.std.specs.FinMap as finite_map
 
--- each block lies in this file, and ends at this offset or before
+-- each block lies in this file, ends at this offset or before, and is no longer than a record allows
 abbrev pub AreBefore : ℕ → CidMap Place → ℕ → Type 0
-AreBefore file places end = (c : List ℕ) (p : Place) → finite_map.get places c ≡ Some p → (p.file ≡ file) × (p.at + p.len ≤ end)
+AreBefore file places end = (c : List ℕ) (p : Place) → finite_map.get places c ≡ Some p → LiesBefore file end c p
 
 -- the walk has read these records of a file, and holds what they tell
 pub record Gathers (file : ℕ) (walk : Walk) (records : List Record) : Type 0 where

@@ -1,9 +1,9 @@
--- What a hot store tells, what it stands for over a disk, and what a call that writes one record does to both.
-use Rattle.std.specs.{Prelude.{◌≡◌, ℕ, ◌+◌, ◌-◌, ◌<◌, ◌≤◌, List, All, Option, Some, None, ◌⊎◌, IsTrue, false, [], ◌∷◌, ◌++◌, length, Result, Err, IsOk, OnOk, OnErr, Bool, refl}, Coded.{Coded, code_by, coded×, coded_ℕ, coded_bool, coded_list, coded_option}}
-use Rattle.ss_device.specs.{declared.disk.Disk.Ghosts, Disk.Same, Calls.{Goes, Touches, Leaves}}
-use Rattle.ss_gatelog.specs.GateLog.{Log, Stands, CountsFault, HasEither}
+-- What a hot store has in memory, what it represents over a disk, and what a call that writes one record does to both.
+use Rattle.std.specs.{Prelude.{◌≡◌, ℕ, ◌+◌, ◌-◌, ◌<◌, ◌≤◌, List, All, Option, Some, None, ◌⊎◌, IsTrue, false, [], ◌∷◌, ◌++◌, length, Result, Err, OnOk, OnErr, Bool, refl}, Coded.{Coded, code_by, coded×, coded_ℕ, coded_bool, coded_list, coded_option}}
+use Rattle.ss_device.specs.{declared.disk.Disk.Ghosts, Disk.Same, Calls.{Goes, Leaves}}
+use Rattle.ss_gatelog.specs.GateLog.{Log, Stands, CountsFault, HasEither, Settled}
 use Rattle.ss_records.specs.{declared.record.Config.Config as Settings, declared.record.Record.Record, Record.{spelling, SettingsFit}}
-use Rattle.ss_store.specs.{declared.place.Place.Place, Places.{CidMap, places_code}, Append.bodies, declared.fault.StoreFault.StoreFault}
+use Rattle.ss_store.specs.{declared.place.Place.Place, Places.{CidMap, LiesBefore, places_code}, Append.{bodies, HasOneOf, Appends}, declared.fault.StoreFault.StoreFault}
 use Rattle.ss_hot.specs.Half.{AreInPlace, IsHalf, settings_of, head_of, base_of, hot_places}
 use Rattle.std.specs.FinMap as finite_map
 use Rattle.ss_records.specs.contracts.record.Config as settings
@@ -16,7 +16,7 @@ pub record Hot : Type 0 where
   pub head : Option (ℕ × List (List ℕ))
   pub base : ℕ × ℕ
 
--- what the store tells is what these records stand for
+-- the store has in memory what these records leave
 pub record Tells (store : Hot) (records : List Record) : Type 0 where
   pub in_place : AreInPlace 0 records
   pub settings : settings_of records ≡ Some store.settings
@@ -28,7 +28,7 @@ pub record Tells (store : Hot) (records : List Record) : Type 0 where
 abbrev pub IsPlaced : Hot → Type 0
 IsPlaced store = (store.log.limit ≡ store.settings.limit) × (store.log.end < store.settings.limit)
 
--- The store stands for these records: each image now has them in its file; or, where its log is unsure, them or the others, by one gate.
+-- The store stands for these records: each image now has them in its file or, if its log is in doubt, them or the others, by one gate.
 pub record Keeps {D : Type 0} (disk : Ghosts D) (now : D) (store : Hot) (records others : List Record) : Type 0 where
   pub tells : Tells store records
   pub placed : IsPlaced store
@@ -42,14 +42,14 @@ IsKnown disk now store = store.log.end + 1 ≤ disk.known now store.log.file
 abbrev pub SameButDoubt : Hot → Hot → Type 0
 SameButDoubt old new = new ≡ record old { log = record old.log { unsure = new.log.unsure } }
 
--- the bytes of a place end before the log does
+-- the bytes of a block end before the log does
 abbrev pub LiesIn : Log → Place → Type 0
 LiesIn log p = p.at + p.len ≤ log.end
 
--- the log has the settings' limit, and each block lies in its file before its end
+-- the log has the settings' limit, and each block lies in its file before its end, and is no longer than a record allows
 pub record IsWithin (settings : Settings) (log : Log) (places : CidMap Place) : Type 0 where
   pub limit : log.limit ≡ settings.limit
-  pub each : (c : List ℕ) (p : Place) → finite_map.get places c ≡ Some p → (p.file ≡ log.file) × LiesIn log p
+  pub each : (c : List ℕ) (p : Place) → finite_map.get places c ≡ Some p → LiesBefore log.file log.end c p
 
 -- none of these blocks is hot
 abbrev pub AreNotHot : Hot → List (List ℕ × List ℕ) → Type 0
@@ -59,29 +59,30 @@ AreNotHot store pairs = All (λ p. finite_map.get store.places p.0 ≡ None) pai
 abbrev pub room_of : Hot → ℕ
 room_of store = store.log.limit - 1 - store.log.end
 
--- Where the disk exposes its files, and the log was sure and the store stood for these records: it stands for one more after
--- `Ok`; after a fault for the same ones, and where its log is in doubt perhaps for that one more; and each image since has the
--- one list or the other.
-pub record KeepsWritten {D : Type 0} (disk : Ghosts D) (was now : D) (old new : Hot) (records : List Record) (r : Record) (result : Result (Unit {0}) StoreFault) : Type 0 where
-  pub kept : OnOk result (Keeps disk now new (records ++ r ∷ []) [])
-  pub failed : OnErr result (Keeps disk now new records (records ++ r ∷ []))
-  pub stops : Leaves disk old.log.file (HasEither old.settings.limit (bodies records) (bodies (records ++ r ∷ []))) was now
+-- Over any disk: the log was settled, and all else stays.
+pub record Settles {D : Type 0} (disk : Ghosts D) (was now : D) (old new : Hot) (result : Result (Unit {0}) StoreFault) : Type 0 where
+  pub log : Settled disk was now old.log new.log StoreFault.DiskFault result
+  pub same : SameButDoubt old new
 
--- Over any disk: written, and the log is sure; or no room or memory, and all stays; or the count of faults rose, and the log may be in doubt.
+-- Where the disk exposes its files, of a store that stood for these records, perhaps in doubt with others: it still does, and each
+-- image since has the one list or the other.
+pub record StillKeeps {D : Type 0} (disk : Ghosts D) (was now : D) (old new : Hot) (records others : List Record) : Type 0 where
+  pub kept : Keeps disk now new records others
+  pub stops : Leaves disk old.log.file (HasEither old.settings.limit (bodies records) (bodies others)) was now
+
+-- Over any disk: the record was appended to the log, or was not. The settings stay, and after an error all else but the log's doubt.
 pub record Writes {D : Type 0} (disk : Ghosts D) (was now : D) (old new : Hot) (r : Record) (result : Result (Unit {0}) StoreFault) : Type 0 where
-  pub sure : OnOk result (new.log.unsure ≡ false)
-  pub end : OnOk result (new.log.end ≡ old.log.end + 5 + length (spelling r))
-  pub err : OnErr result (SameButDoubt old new)
+  pub appends : Appends disk was now old.log new.log (5 + length (spelling r)) result
   pub settings : new.settings ≡ old.settings
-  pub file : new.log.file ≡ old.log.file
-  pub limit : new.log.limit ≡ old.log.limit
+  pub err : OnErr result (SameButDoubt old new)
   pub untouched : (e : StoreFault) → result ≡ Err e → (e ≡ StoreFault.DiskFault) ⊎ ((new ≡ old) × (now ≡ was))
-  pub full : (file need room : ℕ) → result ≡ Err (StoreFault.LogFull file need room) → (file ≡ old.log.file) × (need ≡ 5 + length (spelling r)) × (room ≡ room_of old) × (room < need)
-  pub roomy : IsOk result ⊎ (result ≡ Err StoreFault.DiskFault) → 5 + length (spelling r) ≤ room_of old
-  pub not_damaged : (file at : ℕ) → result ≡ Err (StoreFault.Damaged file at) → ⊥
-  pub counts : CountsFault StoreFault.DiskFault (disk.faults was) (disk.faults now) result
-  pub known : IsKnown disk now new
-  pub touches : Touches disk old.log.file was now
+
+-- Where the disk exposes its files, of a store that stood for these records, perhaps in doubt with others: it stands for one more
+-- after `Ok`; after a fault for what it did, or for these records, perhaps in doubt with one more; each image since has one of the lists.
+pub record KeepsWritten {D : Type 0} (disk : Ghosts D) (was now : D) (old new : Hot) (records others : List Record) (r : Record) (result : Result (Unit {0}) StoreFault) : Type 0 where
+  pub kept : OnOk result (Keeps disk now new (records ++ r ∷ []) [])
+  pub failed : OnErr result (Keeps disk now new records others ⊎ Keeps disk now new records (records ++ r ∷ []))
+  pub stops : Leaves disk old.log.file (HasOneOf old.settings.limit records others (records ++ r ∷ [])) was now
 
 -- the records of a store in which nothing is kept
 abbrev pub first_records : Settings → List Record
@@ -114,7 +115,7 @@ IsOpeningFault fault = (file need room : ℕ) → fault ≡ StoreFault.LogFull f
 abbrev pub IsStop : StoreFault → Type 0
 IsStop fault = (fault ≡ StoreFault.NoMemory) ⊎ (fault ≡ StoreFault.DiskFault)
 
--- Over any disk: no file changes, the count of faults rises just where the answer is the disk's fault, and a fault is one of these.
+-- Over any disk: no file changes, the count of faults rises exactly where the answer is the disk's fault, and a fault is one of these.
 pub record Reads {D T : Type 0} (disk : Ghosts D) (was now : D) (faults : StoreFault → Type 0) (result : Result T StoreFault) : Type 0 where
   pub errors : (fault : StoreFault) → result ≡ Err fault → faults fault
   pub goes : Goes disk Same was now

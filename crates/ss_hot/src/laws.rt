@@ -12,7 +12,7 @@ ghost use Rattle.ss_hot.specs.Store.{Hot, Keeps};
 
 use ss_device::Disk;
 
-/// The places of the hot blocks tell which blocks are hot, and how long each is.
+/// By the places of the hot blocks it is known which blocks are hot, and how long each is.
 pub fn places_tell_blocks()
     ensures lengths { (file : ℕ) (records : List Record) (cid : List ℕ) → option_map (λ place. place.len) (finite_map.get (hot_places file records) cid) ≡ option_map (λ block. length block) (finite_map.get (hot_blocks records) cid) }
     ensures keys { (file : ℕ) (records : List Record) → finite_map.keys (hot_places file records) ≡ finite_map.keys (hot_blocks records) }
@@ -40,7 +40,7 @@ pub fn each_reading()
         → ((records : List Record) × IsHalf file settings records) ⊎ ((at : ℕ) × IsDamagedHalf file at) }
 {}
 
-/// A store whose log is sure is found again: each image now is a half with its settings and just its records.
+/// A store whose log is sure is found again: each image now is a half with its settings and exactly its records.
 pub fn kept_is_opened_again<D: Disk>()
     ensures { (now : _) (store : Hot) (records others : List Record) → Keeps D.Disk now store records others → store.log.unsure ≡ false → (left : Files) → D.image now (D.moment now) left → IsHalf (left store.log.file) store.settings records }
 {}

@@ -19,7 +19,8 @@ const FILE: u8 = 0;
 /// The hot store of a disk: blocks by their CIDs, the head of the chain, and the base of the last compaction.
 ///
 /// All of it stands in the log of one file of the disk; in memory are the settings, the head, the base, and for each block where
-/// its bytes lie. A call that writes appends one record, for which it takes all memory before it asks the disk for anything.
+/// its bytes lie. A call that writes appends one record. It takes all its memory before it asks the disk for anything, and then
+/// settles a log in doubt.
 #[derive(Debug, Drop)]
 pub struct HotStore {
     config: Config,

@@ -31,9 +31,9 @@ use Rattle.ss_import.specs.declared.fault.BlockFault.TheVariants as block
 use Rattle.ss_import.specs.declared.fault.ImportFault.{ImportFault}
 use Rattle.ss_import.specs.declared.fault.ImportFault.TheVariants as import
 use Rattle.ss_import.specs.declared.importer.Imported.{Imported}
-use Rattle.ss_import.specs.Import.{entry, pair_of, ArePuts, IsLastPut, IsLastHead, AreRead, IsWhole, EndsPuts, EndsReading, EndsHead, IsBlockFault, IsImport, IsImportable, IsFull, entries_of}
+use Rattle.ss_import.specs.Import as spec
+use Rattle.ss_import.specs.Import.{pair_of, ArePuts, put_of, IsRefused, IsLastHead, AreRead, IsWhole, EndsPut, EndsPuts, EndsReading, EndsHead, IsBlockFault, IsImport, IsImportable, IsFull, entries_of, no_memory, disk_fault, log_full, table_full, not_put, answered, refused_first, refused_ended}
 use Rattle.ss_import.proofs.Kept.{AreSmall, HasStored, puts_keep, blocks_small}
-use Rattle.ss_import.proofs.Puts.{puts_before}
 use Rattle.ss_import.proofs.Putting.{opened}
 use Rattle.ss_import.proofs.Unsound.{not_unknown, not_mismatch, not_malformed}
 
@@ -116,38 +116,45 @@ module _ (wants : Bool) (bytes : List ℕ) (roots : List (List ℕ)) (sections :
   sound_read = sound_front (map pair_of read) (map pair_of first.0) (subst AreSound pairs_are fine.sound)
 
   -- no entry is a fault of the disk
-  never : (e : Entry) → last ≡ e ∷ [] → is_disk_fault e.answer ≡ true → ⊥
-  never e is wrong =
-      let all = faults_more (opened v ∷ puts) e ∙ ap (λ b. faults_in (opened v ∷ puts) + (if b then 1 else 0)) wrong in
-      omega (arith, all, none, ap (λ l. faults_in (opened v ∷ (puts ++ l))) is)
+  never : (h : List Entry) (e : Entry) → last ≡ h ++ e ∷ [] → is_disk_fault e.answer ≡ true → ⊥
+  never h e is wrong =
+      let all = faults_more (opened v ∷ (puts ++ h)) e ∙ ap (λ b. faults_in (opened v ∷ (puts ++ h)) + (if b then 1 else 0)) wrong in
+      omega (arith, all, none, ap (λ l. faults_in (opened v ∷ l)) (ap (λ l. puts ++ l) is ∙ sym (append_assoc puts h (e ∷ []))))
 
-  bad_block : (x : Section) (more : List Section) (fault : BlockFault) → left ≡ x ∷ more → IsBlockFault v puts x fault → ⊥
-  bad_block x more fault is blames = by fault blames
+  -- no put of what is left is refused for a block
+  bad_block : (front : List Section) (x : Section) (fault : BlockFault) (reply : PutReply) (later : List Entry) → IsRefused left front x fault reply → last ≡ put_of v left reply ∷ later → ⊥
+  bad_block front x fault reply later r is = by fault r.blames
     where
+      parts : read ≡ (stored.stored ++ front) ++ x ∷ r.rest
+      parts = stored.parts ∙ ap (λ l. stored.stored ++ l) r.parts ∙ sym (append_assoc stored.stored front (x ∷ r.rest))
+
       sound : IsSound (pair_of x)
-      sound = sound_at (map pair_of stored.stored) (map pair_of more) (pair_of x) (subst AreSound (ap (map pair_of) (stored.parts ∙ ap (λ l. stored.stored ++ l) is) ∙ map-append pair_of stored.stored (x ∷ more)) sound_read)
+      sound = sound_at (map pair_of (stored.stored ++ front)) (map pair_of r.rest) (pair_of x) (subst AreSound (ap (map pair_of) parts ∙ map-append pair_of (stored.stored ++ front) (x ∷ r.rest)) sound_read)
 
-      by : (f : BlockFault) → IsBlockFault v puts x f → ⊥
-      by block.UnknownHash b = not_unknown (pair_of x) sound 0 0 b
-      by block.Mismatch b = not_mismatch (pair_of x) sound 0 0 b
-      by block.Malformed b = not_malformed (pair_of x) sound 0 0 b.0 b.1 b.2
+      short : AreSmall (AfterAll begun puts).kept
+      short = subst AreSmall (sym stored.kept_is) (blocks_small s.kept (map pair_of stored.stored) small (sound_front (map pair_of stored.stored) (map pair_of left) (subst AreSound (ap (map pair_of) stored.parts ∙ map-append pair_of stored.stored left) sound_read)))
+
+      by : (f : BlockFault) → IsBlockFault left (length front) x f reply → ⊥
+      by block.UnknownHash b = not_unknown (pair_of x) sound (length front) (length front) b.1
+      by block.Mismatch b = not_mismatch (pair_of x) sound (length front) (length front) b.1
+      by block.Malformed b = not_malformed (pair_of x) sound (length front) (length front) b.0 b.1 b.3
       by block.TooLarge b =
-          let before = puts_before v read b.1 (entry (call.Put v (pair_of x ∷ [])) (answer.Put (put.TooBig b.0)) ∷ []) left (subst (λ l. ArePuts v read l left) b.2 are_puts) in
-          let kept = puts_keep begun v read b.1 before.0 before.1 in
-          let short = subst AreSmall (sym kept.kept_is) (blocks_small s.kept (map pair_of kept.stored) small (sound_front (map pair_of kept.stored) (map pair_of before.0) (subst AreSound (ap (map pair_of) kept.parts ∙ map-append pair_of kept.stored before.0) sound_read))) in
-          let there = legal_behind begun b.1 (entry (call.Put v (pair_of x ∷ [])) (answer.Put (put.TooBig b.0)) ∷ last) (subst (Legal begun) (ap (λ l. l ++ last) b.2 ∙ append_assoc b.1 _ last) legal.1) in
-          not_big (AfterAll begun b.1).kept (pair_of x) short sound.small there.0.2
+          let alone : last ≡ put_of v (x ∷ []) (put.TooBig b.1) ∷ later = is ∙ ap (λ l. put_of v l reply ∷ later) b.0 ∙ ap (λ r. put_of v (x ∷ []) r ∷ later) b.2 in
+          let there = subst (Legal (AfterAll begun puts)) alone (legal_behind begun puts last legal.1) in
+          not_big (AfterAll begun puts).kept (pair_of x) short sound.small there.0.2
 
-  put_ends : (fault : ImportFault) → EndsPuts v puts left last fault → (fault ≡ import.NoMemory) ⊎ IsFull fault
-  put_ends import.NoMemory ends = inl refl
-  put_ends import.DiskFault ends = absurd (never _ ends.4 refl)
-  put_ends (import.LogFull file need room) ends = inr tt
-  put_ends (import.TableFull rows) ends = inr tt
-  put_ends (import.BadBlock fault offset) ends = absurd (bad_block ends.1 ends.2 fault ends.3 ends.5)
-  put_ends import.ReadFault ends = absurd ends
-  put_ends (import.BadCar fault offset) ends = absurd ends
-  put_ends import.TooLong ends = absurd ends
-  put_ends (import.BadHead reply) ends = absurd ends
+  answer_ends : (h : List Entry) (group : List Section) (reply : PutReply) (fault : ImportFault) → EndsPut reply fault → last ≡ h ++ put_of v group reply ∷ [] → (fault ≡ import.NoMemory) ⊎ IsFull fault
+  answer_ends h group _ _ no_memory is = inl refl
+  answer_ends h group _ _ disk_fault is = absurd (never h _ is refl)
+  answer_ends h group _ _ (log_full file need room) is = inr tt
+  answer_ends h group _ _ (table_full rows) is = inr tt
+
+  put_ends : (l : List Entry) (fault : ImportFault) → last ≡ l → EndsPuts v left l fault → (fault ≡ import.NoMemory) ⊎ IsFull fault
+  put_ends _ _ is (spec.EndsPuts.ended not_put) = inl refl
+  put_ends _ _ is (spec.EndsPuts.ended (answered reply fault together ends)) = answer_ends [] left reply fault ends is
+  put_ends _ _ is (refused_first x bad reply r) = absurd (bad_block [] x bad reply [] r is)
+  put_ends _ _ is (spec.EndsPuts.refused front x bad reply new r group) = absurd (bad_block front x bad reply _ r is)
+  put_ends _ _ is (refused_ended front x bad reply r some at) = absurd (bad_block front x bad reply _ r is)
 
   car_ends : (fault : ImportFault) → (fault ≡ import.ReadFault → ⊥) → EndsReading (Some bytes) these read left fault → fault ≡ import.NoMemory
   car_ends import.NoMemory read_on ends = refl
@@ -188,7 +195,7 @@ module _ (wants : Bool) (bytes : List ℕ) (roots : List (List ℕ)) (sections :
 
       by : (r : HeadReply) → r ≡ reply → EndsHead r fault → (fault ≡ import.NoMemory) ⊎ IsFull fault
       by head.NoMemory is e = inl e
-      by head.DiskFault is e = absurd (never _ mine (ap (λ r. is_disk_fault (answer.Head r)) (sym is)))
+      by head.DiskFault is e = absurd (never [] _ mine (ap (λ r. is_disk_fault (answer.Head r)) (sym is)))
       by (head.LogFull file need room) is e = inr (subst IsFull (sym e) tt)
       by (head.Set n) is e = absurd e
       by head.Empty is e = absurd (refused (subst (λ r. EndsHead r (import.BadHead r)) is refl))
@@ -207,7 +214,7 @@ complete Did wants bytes roots sections s (Err fault) i fine small legal none re
   fault,
   refl,
   ⊎_elim
-      (λ ends. put_ends wants bytes roots sections s fine small i.view i.roots i.sections i.left i.puts i.last i.are_puts i.read legal none fault ends)
+      (λ ends. put_ends wants bytes roots sections s fine small i.view i.roots i.sections i.left i.puts i.last i.are_puts i.read legal none i.last fault refl ends)
       (⊎_elim
       (λ reading. inl (car_ends wants bytes roots sections s fine small i.view i.roots i.sections i.left i.puts i.last i.are_puts i.read legal none fault (λ is. read_on (ap Err is)) reading.1))
       (λ h. head_ends wants bytes roots sections s fine small i.view i.roots i.sections i.left i.puts i.last i.are_puts i.read legal none fault h.3 h.0 h.1 h.2 h.4 h.5))
@@ -217,20 +224,24 @@ complete Did wants bytes roots sections s (Err fault) i fine small legal none re
 -- ---- no record needs more than its room, and there are rows
 
 module _ (Did : List Entry → Type 0) (wants : Bool) (input : Option (List ℕ)) (s : State) (fault : ImportFault) (i : IsImport Did wants input (Err fault)) (legal : Legal s (entries_of i)) (place : HavePlace s (entries_of i)) (none : faults_in (entries_of i) ≡ 0) where
-  refused_none : (e : Entry) → i.last ≡ e ∷ [] → is_refused e ≡ true → ⊥
-  refused_none e is wrong =
-      true≢false (sym (any_last is_refused (opened i.view ∷ i.puts) e wrong) ∙ ap (λ l. list_any is_refused (opened i.view ∷ (i.puts ++ l))) (sym is) ∙ fulfilled s (entries_of i) legal place none)
+  refused_none : (h : List Entry) (e : Entry) → i.last ≡ h ++ e ∷ [] → is_refused e ≡ true → ⊥
+  refused_none h e is wrong =
+      let all : entries_of i ≡ (opened i.view ∷ (i.puts ++ h)) ++ e ∷ [] = ap (λ l. opened i.view ∷ l) (ap (λ l. i.puts ++ l) is ∙ sym (append_assoc i.puts h (e ∷ []))) in
+      true≢false (sym (any_last is_refused (opened i.view ∷ (i.puts ++ h)) e wrong) ∙ ap (list_any is_refused) (sym all) ∙ fulfilled s (entries_of i) legal place none)
 
-  by_put : (f : ImportFault) → IsFull f → EndsPuts i.view i.puts i.left i.last f → ⊥
-  by_put (import.LogFull file need room) is ends = refused_none _ ends.4 refl
-  by_put (import.TableFull rows) is ends = refused_none _ ends.4 refl
-  by_put import.NoMemory is ends = is
-  by_put import.ReadFault is ends = is
-  by_put import.DiskFault is ends = is
-  by_put (import.BadCar f offset) is ends = is
-  by_put (import.BadBlock f offset) is ends = is
-  by_put import.TooLong is ends = is
-  by_put (import.BadHead reply) is ends = is
+  by_answer : (h : List Entry) (group : List Section) (reply : PutReply) (f : ImportFault) → IsFull f → EndsPut reply f → i.last ≡ h ++ put_of i.view group reply ∷ [] → ⊥
+  by_answer h group _ _ full no_memory is = full
+  by_answer h group _ _ full disk_fault is = full
+  by_answer h group _ _ full (log_full file need room) is = refused_none h _ is refl
+  by_answer h group _ _ full (table_full rows) is = refused_none h _ is refl
+
+  by_put : (l : List Entry) (f : ImportFault) → i.last ≡ l → IsFull f → EndsPuts i.view i.left l f → ⊥
+  by_put _ _ is full (spec.EndsPuts.ended not_put) = full
+  by_put _ _ is full (spec.EndsPuts.ended (answered reply f together ends)) = by_answer [] i.left reply f full ends is
+  by_put _ _ is full (refused_first x bad reply r) = full
+  by_put _ _ is full (spec.EndsPuts.refused front x bad reply new r group) = full
+  by_put _ _ is full (refused_ended front x bad reply r some not_put) = full
+  by_put _ _ is full (refused_ended front x bad reply r some (answered other f together ends)) = by_answer (put_of i.view i.left reply ∷ []) front other f full ends is
 
   by_reading : (f : ImportFault) → IsFull f → EndsReading input i.roots i.sections i.left f → ⊥
   by_reading (import.LogFull file need room) is ends = ends
@@ -246,7 +257,7 @@ module _ (Did : List Entry → Type 0) (wants : Bool) (input : Option (List ℕ)
   by_head : (reply : HeadReply) → IsLastHead i.roots i.last reply → EndsHead reply fault → IsFull fault → ⊥
   by_head head.NoMemory last is full = subst IsFull is full
   by_head head.DiskFault last is full = subst IsFull is full
-  by_head (head.LogFull file need room) last is full = refused_none _ last refl
+  by_head (head.LogFull file need room) last is full = refused_none [] _ last refl
   by_head (head.Set height) last is full = is
   by_head head.Empty last is full = subst IsFull is full
   by_head (head.TooMany n) last is full = subst IsFull is full
@@ -258,4 +269,4 @@ module _ (Did : List Entry → Type 0) (wants : Bool) (input : Option (List ℕ)
 
   -- neither a log nor the table ends the import
   pub not_full : IsFull fault → ⊥
-  not_full full = ⊎_elim (by_put fault full) (⊎_elim (λ reading. by_reading fault full reading.1) (λ h. by_head h.3 h.4 h.5 full)) i.reason
+  not_full full = ⊎_elim (by_put i.last fault refl full) (⊎_elim (λ reading. by_reading fault full reading.1) (λ h. by_head h.3 h.4 h.5 full)) i.reason

@@ -1,7 +1,8 @@
 -- The front of a group, before a block that is not stored.
-use Rattle.std.proofs.Common.{◌≡◌, ◌⊎◌, inl, inr, ⊎_elim, ℕ, zero, suc, ◌<◌, ◌≤◌, List, [], ◌∷◌, ◌++◌, map, length, take, Some, refl, ap, arith}
+use Rattle.std.proofs.Common.{◌≡◌, ◌⊎◌, inl, inr, ⊎_elim, ℕ, zero, suc, ◌<◌, ◌≤◌, List, [], ◌∷◌, ◌++◌, map, length, take, Some, refl, sym, ap, ◌∙◌, subst, arith}
 use Rattle.std.specs.Prelude.{slice_get, slice_index_or}
-use Rattle.std.proofs.lemmas.List.{length-take}
+use Rattle.std.proofs.lemmas.List.{length-take, length-map, map-append}
+use Rattle.std.proofs.Math.Seq.{take-append_seam}
 use Rattle.std.proofs.lemmas.List.Sums.{sum_by-take-le}
 use Rattle.std.proofs.lemmas.Option.{slice_get_within}
 use Rattle.ss_car.specs.Car.{Section}
@@ -14,9 +15,8 @@ use Rattle.ss_core.specs.declared.split_core.SplitCore.{SplitCore}
 use Rattle.ss_core.specs.Replies.{held_bytes, held_put_bytes}
 use Rattle.ss_import.specs.declared.fault.BlockFault.{BlockFault}
 use Rattle.ss_import.specs.declared.fault.BlockFault.TheVariants as block
-use Rattle.ss_import.specs.Import.{pair_of, pair_length, GoTogether, IsBlockFault}
+use Rattle.ss_import.specs.Import.{pair_of, pair_length, GoTogether, IsGroup}
 use Rattle.ss_import.specs.Steps.{IsDueBlock}
-use Rattle.ss_model.specs.declared.call.Entry.{Entry}
 use Rattle.ss_import.proofs.Unsound.{not_unknown, not_mismatch, not_malformed}
 
 pub together_front : (pairs : List (List ℕ × List ℕ)) (i : ℕ) → GoTogether pairs → GoTogether (take i pairs)
@@ -48,13 +48,6 @@ pub section_at : (left : List Section) (i : ℕ) → i < length (map pair_of lef
 section_at [] i within = absurd (let no : ⊥ = omega (arith, within) in no)
 section_at (x ∷ left) zero within = (x, refl)
 section_at (x ∷ left) (suc i) within = section_at left i (omega (arith, within))
-
--- what is blamed does not change by a put of what stands before
-pub still_blamed : (v : ℕ) (puts later : List Entry) (s : Section) {D : Type 0} {disk : Ghosts D} (core : SplitCore D disk) (pairs : List (List ℕ × List ℕ)) (i : ℕ) (fault : BlockFault) → (i ≡ 0 → ⊥) → IsDueBlock core pairs i fault → IsBlockFault v puts s fault → IsBlockFault v later s fault
-still_blamed v puts later s core pairs i block.TooLarge some due blames = absurd (some due.0)
-still_blamed v puts later s core pairs i block.UnknownHash some due blames = blames
-still_blamed v puts later s core pairs i block.Mismatch some due blames = blames
-still_blamed v puts later s core pairs i block.Malformed some due blames = blames
 
 get_take : (pairs : List (List ℕ × List ℕ)) (i k : ℕ) (p : List ℕ × List ℕ) → slice_get (take i pairs) k ≡ Some p → slice_get pairs k ≡ Some p
 get_take [] zero k p here = here
@@ -94,3 +87,21 @@ module _ {D : Type 0} {disk : Ghosts D} (core : SplitCore D disk) (pairs : List 
 pub some_of : {X : Type 0} (xs : List X) → (xs ≡ [] → ⊥) → 1 ≤ length xs
 some_of [] none = absurd (none refl)
 some_of (x ∷ xs) none = omega arith
+
+-- sections whose pairs go together, of which there are some
+pub group_of : (group : List Section) (pairs : List (List ℕ × List ℕ)) → pairs ≡ map pair_of group → 1 ≤ length pairs → GoTogether pairs → IsGroup group
+group_of group pairs same some together = (omega (arith, some, ap length same, length-map group pair_of), subst GoTogether same together)
+
+-- the section that comes after these, and its index
+pub here_at : (left front : List Section) (s : Section) (rest : List Section) (i : ℕ) → left ≡ front ++ s ∷ rest → i ≡ length front → slice_get left i ≡ Some s
+here_at left front s rest i parts at = rw (parts, at) (go front)
+  where
+    go : (l : List Section) → slice_get (l ++ s ∷ rest) (length l) ≡ Some s
+    go [] = refl
+    go (x ∷ l) = go l
+
+-- the pairs of the sections before it
+pub front_pairs : (left front : List Section) (s : Section) (rest : List Section) (i : ℕ) → left ≡ front ++ s ∷ rest → i ≡ length front → take i (map pair_of left) ≡ map pair_of front
+front_pairs left front s rest i parts at =
+    ap (λ l. take i (map pair_of l)) parts ∙ ap (take i) (map-append pair_of front (s ∷ rest))
+    ∙ ap (λ n. take n (map pair_of front ++ map pair_of (s ∷ rest))) (at ∙ sym (length-map front pair_of)) ∙ take-append_seam (map pair_of front) (map pair_of (s ∷ rest))

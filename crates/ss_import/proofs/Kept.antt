@@ -1,6 +1,5 @@
 -- What is kept along an import, and that its blocks are small.
 use Rattle.std.proofs.Common.{◌≡◌, ◌⊎◌, inl, inr, ⊎_elim, ℕ, suc, Bool, true, false, cond, List, [], ◌∷◌, ◌++◌, map, Some, refl, sym, ap, ◌∙◌, subst, arith, append_assoc}
-use Rattle.std.specs.Prelude.{if◌then◌else◌}
 use Rattle.std.specs.Ordering.{nat_cmp, eq_by_cmp}
 use Rattle.std.specs.Cmp.{Equal-is}
 use Rattle.std.specs.Cmp.Lexicographic.{slice_cmp, nat_list_cmp_total}
@@ -11,12 +10,8 @@ use Rattle.ss_car.specs.Car.{Section}
 use Rattle.ss_model.specs.State.{State, Kept}
 use Rattle.ss_model.specs.Lawful.{After, AreSound, IsSmall, is_known, with_block, with_blocks}
 use Rattle.ss_model.specs.Lawful.{AfterAll}
-use Rattle.ss_model.specs.declared.call.Call.TheVariants as call
-use Rattle.ss_model.specs.declared.call.Answer.{Answer}
-use Rattle.ss_model.specs.declared.call.Answer.TheVariants as answer
-use Rattle.ss_model.specs.declared.call.PutReply.TheVariants as put
 use Rattle.ss_model.specs.declared.call.Entry.{Entry}
-use Rattle.ss_import.specs.Import.{pair_of, is_stored, IsSettled, ArePuts}
+use Rattle.ss_import.specs.Import.{pair_of, ArePuts}
 
 -- no kept block is longer than a block may be
 abbrev pub AreSmall : Kept → Type 0
@@ -54,28 +49,6 @@ with_blocks_append : (kept : Kept) (a b : List (List ℕ × List ℕ)) → with_
 with_blocks_append kept [] b = refl
 with_blocks_append kept (p ∷ a) b = with_blocks_append (with_block kept p) a b
 
--- a settled put changes what is kept by its blocks, or not at all
-put_keeps : (t : State) (v : ℕ) (pairs : List (List ℕ × List ℕ)) (a : Answer) → IsSettled a → (After t (call.Put v pairs) a).kept ≡ (if is_stored a then with_blocks t.kept pairs else t.kept)
-put_keeps t v pairs (answer.Put (put.Stored n)) is = refl
-put_keeps t v pairs (answer.Put (put.TooBig n)) is = refl
-put_keeps t v pairs (answer.Put (put.UnknownHash i)) is = refl
-put_keeps t v pairs (answer.Put (put.Mismatch i)) is = refl
-put_keeps t v pairs (answer.Put (put.Malformed i kind place)) is = refl
-put_keeps t v pairs (answer.Put put.BadView) is = absurd is
-put_keeps t v pairs (answer.Put (put.TooMany n)) is = absurd is
-put_keeps t v pairs (answer.Put (put.TooLarge i)) is = absurd is
-put_keeps t v pairs (answer.Put put.NoMemory) is = absurd is
-put_keeps t v pairs (answer.Put (put.TableFull rows)) is = absurd is
-put_keeps t v pairs (answer.Put (put.LogFull file need room)) is = absurd is
-put_keeps t v pairs (answer.Put put.DiskFault) is = absurd is
-put_keeps t v pairs (answer.View r) is = absurd is
-put_keeps t v pairs (answer.Close r) is = absurd is
-put_keeps t v pairs (answer.Get r) is = absurd is
-put_keeps t v pairs (answer.Has r) is = absurd is
-put_keeps t v pairs (answer.Size r) is = absurd is
-put_keeps t v pairs (answer.Head r) is = absurd is
-put_keeps t v pairs (answer.Info r) is = absurd is
-
 -- what the puts of an import have stored: the sections that are not left
 pub record HasStored (kept after : Kept) (sections left : List Section) : Type 0 where
   pub stored : List Section
@@ -84,28 +57,13 @@ pub record HasStored (kept after : Kept) (sections left : List Section) : Type 0
 
 pub puts_keep : (t : State) (v : ℕ) (sections : List Section) (puts : List Entry) (left : List Section) → ArePuts v sections puts left → HasStored t.kept (AfterAll t puts).kept sections left
 puts_keep t v sections [] left are = record { stored = []; parts = sym are; kept_is = refl }
-puts_keep t v sections (e ∷ h) left are = by (is_stored e.answer) refl (λ later rest. puts_keep (After t e.call e.answer) v later h left rest)
-  where
-    group : List Section
-    group = are.0
-
-    next : State
-    next = After t e.call e.answer
-
-    keeps : next.kept ≡ (if is_stored e.answer then with_blocks t.kept (map pair_of group) else t.kept)
-    keeps = ap (λ k. (After t k e.answer).kept) (ap (λ (x : Entry). x.call) are.3.1) ∙ put_keeps t v (map pair_of group) e.answer are.4
-
-    by : (b : Bool) → is_stored e.answer ≡ b → ((later : List Section) → ArePuts v later h left → HasStored next.kept (AfterAll next h).kept later left) → HasStored t.kept (AfterAll next h).kept sections left
-    by true is on =
-        let rest = on are.1 (subst (λ b. ArePuts v (if b then are.1 else sections) h left) is are.5) in record {
-          stored = group ++ rest.stored;
-          parts = are.2 ∙ ap (λ l. group ++ l) rest.parts ∙ sym (append_assoc group rest.stored left);
-          kept_is = rest.kept_is ∙ ap (λ k. with_blocks k (map pair_of rest.stored)) (keeps ∙ ap (λ b. if b then with_blocks t.kept (map pair_of group) else t.kept) is)
-              ∙ sym (with_blocks_append t.kept (map pair_of group) (map pair_of rest.stored)) ∙ ap (with_blocks t.kept) (sym (map-append pair_of group rest.stored));
-        }
-    by false is on =
-        let rest = on sections (subst (λ b. ArePuts v (if b then are.1 else sections) h left) is are.5) in record {
-          stored = rest.stored;
-          parts = rest.parts;
-          kept_is = rest.kept_is ∙ ap (λ k. with_blocks k (map pair_of rest.stored)) (keeps ∙ ap (λ b. if b then with_blocks t.kept (map pair_of group) else t.kept) is);
-        }
+puts_keep t v sections (e ∷ h) left are =
+    let group : List Section = are.0 in
+    let next : State = After t e.call e.answer in
+    let keeps : next.kept ≡ with_blocks t.kept (map pair_of group) = ap (λ (x : Entry). (After t x.call x.answer).kept) are.5 in
+    let rest = puts_keep next v are.1 h left are.6 in record {
+      stored = group ++ rest.stored;
+      parts = are.3 ∙ ap (λ l. group ++ l) rest.parts ∙ sym (append_assoc group rest.stored left);
+      kept_is = rest.kept_is ∙ ap (λ k. with_blocks k (map pair_of rest.stored)) keeps
+          ∙ sym (with_blocks_append t.kept (map pair_of group) (map pair_of rest.stored)) ∙ ap (with_blocks t.kept) (sym (map-append pair_of group rest.stored));
+    }

@@ -8,4 +8,5 @@ mod Unsound
 mod Fronts
 mod Ends
 mod Steps
+pub mod Counted
 pub mod Complete

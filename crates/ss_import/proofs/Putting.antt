@@ -1,7 +1,8 @@
 -- What a put leaves of an import, by its answer.
-use Rattle.std.proofs.Common.{◌≡◌, inl, inr, ℕ, min, ◌+◌, ◌-◌, ◌^◌, false, List, [], ◌∷◌, ◌++◌, map, Option, Err, refl, sym, ap, ◌∙◌, subst, arith, true≢false}
-use Rattle.std.specs.Prelude.{IsTrue, if◌then◌else◌}
-use Rattle.std.proofs.lemmas.List.{append-nil}
+use Rattle.std.proofs.Common.{◌≡◌, ℕ, zero, suc, min, ◌+◌, ◌-◌, ◌^◌, ◌≤◌, List, [], ◌∷◌, ◌++◌, map, length, take, Some, Err, refl, sym, ap, ◌∙◌, subst, append_assoc, arith}
+use Rattle.std.specs.Prelude.{IsTrue, slice_get}
+use Rattle.std.proofs.lemmas.List.{append-nil, length-take-le}
+use Rattle.std.proofs.lemmas.Option.{slice_get_within}
 use Rattle.ss_device.specs.declared.disk.Disk.{Ghosts}
 use Rattle.ss_car.specs.Car.{Section}
 use Rattle.ss_model.specs.State.{State}
@@ -20,34 +21,31 @@ use Rattle.ss_import.specs.declared.fault.BlockFault.{BlockFault}
 use Rattle.ss_import.specs.declared.fault.ImportFault.{ImportFault}
 use Rattle.ss_import.specs.declared.fault.ImportFault.TheVariants as import
 use Rattle.ss_import.specs.declared.importer.Importer.{Importer}
-use Rattle.ss_import.specs.Import.{entry, pair_of, GoTogether, is_stored, new_of, new_in, IsSettled, IsBlockFault, ArePuts, EndsPuts}
-use Rattle.ss_import.specs.Steps.{Putting, PutsEnded, Takes}
+use Rattle.ss_import.specs.Import as spec
+use Rattle.ss_import.specs.Import.{entry, pair_of, GoTogether, IsGroup, put_of, new_of, new_in, IsBlockFault, IsRefused, ArePuts, EndsPut, EndsAt, EndsPuts, no_memory, disk_fault, log_full, table_full, not_put, answered, refused_first, refused_ended}
+use Rattle.ss_import.specs.Steps.{Putting, PutRefused, PutsEnded, Takes}
+use Rattle.ss_import.proofs.Fronts.{front_of}
 use Rattle.ss_import.proofs.Puts.{puts_more, puts_read, new_more}
-use Rattle.ss_import.proofs.Replies.{IsEnd, no_memory, disk_fault, log_full, table_full}
 
 abbrev pub opened : ℕ → Entry
 opened v = entry call.OpenView (answer.View (ViewReply.Opened v))
 
--- a put of these sections that is answered so
-abbrev pub put_of : ℕ → List Section → PutReply → Entry
-put_of v group reply = entry (call.Put v (map pair_of group)) (answer.Put reply)
-
 count_more : (all was now new more top : ℕ) → was ≡ min all top → now ≡ min (was + new) top → more ≡ all + new → now ≡ min more top
 count_more all was now new more top before is sum = omega (arith, before, is, sum)
 
-none_new : (reply : PutReply) → is_stored (answer.Put reply) ≡ false → new_of (answer.Put reply) ≡ 0
-none_new (put.Stored n) wrong = absurd (true≢false wrong)
-none_new put.BadView kept = refl
-none_new (put.TooMany n) kept = refl
-none_new (put.TooBig n) kept = refl
-none_new (put.TooLarge i) kept = refl
-none_new (put.UnknownHash i) kept = refl
-none_new (put.Mismatch i) kept = refl
-none_new (put.Malformed i kind place) kept = refl
-none_new put.NoMemory kept = refl
-none_new (put.TableFull rows) kept = refl
-none_new (put.LogFull file need room) kept = refl
-none_new put.DiskFault kept = refl
+-- no put ends an import for the length of a section
+at_too_long : (v : ℕ) (group : List Section) (last : List Entry) (fault : ImportFault) → EndsAt v group last fault → fault ≡ import.TooLong → ⊥
+at_too_long v group _ _ not_put is = cc
+at_too_long v group _ _ (answered _ _ together no_memory) is = cc
+at_too_long v group _ _ (answered _ _ together disk_fault) is = cc
+at_too_long v group _ _ (answered _ _ together (log_full file need room)) is = cc
+at_too_long v group _ _ (answered _ _ together (table_full rows)) is = cc
+
+never_too_long : (v : ℕ) (left : List Section) (last : List Entry) (fault : ImportFault) → EndsPuts v left last fault → fault ≡ import.TooLong → ⊥
+never_too_long v left _ _ (spec.EndsPuts.ended at) is = at_too_long v left _ _ at is
+never_too_long v left _ _ (refused_first s bad reply r) is = cc
+never_too_long v left _ _ (spec.EndsPuts.refused front s bad reply new r group) is = cc
+never_too_long v left _ _ (refused_ended front s bad reply r some at) is = at_too_long v front _ _ at is
 
 module _ {D : Type 0} {disk : Ghosts D} (was : D) where
   -- one put more, of a parcel that holds these sections
@@ -59,54 +57,102 @@ module _ {D : Type 0} {disk : Ghosts D} (was : D) where
       (story_more was old new (opened v ∷ puts) (entry (call.Put v parcel) (answer.Put reply)) story told made)
 
   module _ (imp : Importer D disk) (sections left : List Section) (puts : List Entry) (are : ArePuts imp.view sections puts left) where
-    -- the sections were stored
-    pub stored : (group more : List Section) (reply : PutReply) (n before : ℕ) → before ≡ min (new_in puts) (2 ^ 64 - 1) → reply ≡ put.Stored n → left ≡ group ++ more → GoTogether (map pair_of group)
-        → Story was imp.core (opened imp.view ∷ (puts ++ put_of imp.view group reply ∷ [])) → imp.new_blocks ≡ min (before + n) (2 ^ 64 - 1) → Putting was imp sections more
-    stored group more reply n before count is parts together story new = record {
-      puts = puts ++ put_of imp.view group reply ∷ [];
+    -- the group was stored
+    pub stored : (reply : PutReply) (n before : ℕ) → before ≡ min (new_in puts) (2 ^ 64 - 1) → reply ≡ put.Stored n → IsGroup left
+        → Story was imp.core (opened imp.view ∷ (puts ++ put_of imp.view left reply ∷ [])) → imp.new_blocks ≡ min (before + n) (2 ^ 64 - 1) → Putting was imp sections []
+    stored reply n before count is together story new = record {
+      puts = puts ++ put_of imp.view left reply ∷ [];
       story = story;
-      are_puts = subst (λ r. ArePuts imp.view sections (puts ++ put_of imp.view group r ∷ []) more) (sym is) (puts_more imp.view sections puts left group more (answer.Put (put.Stored n)) are parts together tt);
-      new_is = count_more (new_in puts) before imp.new_blocks n (new_in (puts ++ put_of imp.view group reply ∷ [])) (2 ^ 64 - 1) count new
-          (new_more puts (put_of imp.view group reply) ∙ ap (λ r. new_in puts + new_of (answer.Put r)) is);
+      are_puts = subst (λ r. ArePuts imp.view sections (puts ++ put_of imp.view left r ∷ []) []) (sym is) (puts_more imp.view sections puts left left [] n are (sym (append-nil left)) together);
+      new_is = count_more (new_in puts) before imp.new_blocks n (new_in (puts ++ put_of imp.view left reply ∷ [])) (2 ^ 64 - 1) count new
+          (new_more puts (put_of imp.view left reply) ∙ ap (λ r. new_in puts + new_of (answer.Put r)) is);
     }
 
-    -- one of their blocks is refused
-    pub refused : (reply : PutReply) (s : Section) (fault : BlockFault) → imp.new_blocks ≡ min (new_in puts) (2 ^ 64 - 1) → IsSettled (answer.Put reply) → is_stored (answer.Put reply) ≡ false → GoTogether (map pair_of left)
-        → Story was imp.core (opened imp.view ∷ (puts ++ put_of imp.view left reply ∷ [])) → IsBlockFault imp.view (puts ++ put_of imp.view left reply ∷ []) s fault → (p : Putting was imp sections left) × IsBlockFault imp.view p.puts s fault
-    refused reply s fault count settled kept together story blames = (
-      record {
-        puts = puts ++ put_of imp.view left reply ∷ [];
-        story = story;
-        are_puts = subst (λ b. ArePuts imp.view sections (puts ++ put_of imp.view left reply ∷ []) (if b then [] else left)) kept
-            (puts_more imp.view sections puts left left [] (answer.Put reply) are (sym (append-nil left)) together settled);
-        new_is = count ∙ ap (λ n. min n (2 ^ 64 - 1)) (let sum = new_more puts (put_of imp.view left reply) in omega (arith, sum, none_new reply kept));
-      },
-      blames,
-    )
+    -- one of its blocks is refused
+    pub refused : (reply : PutReply) (i : ℕ) (s : Section) (fault : BlockFault) → IsGroup left → Story was imp.core (opened imp.view ∷ (puts ++ put_of imp.view left reply ∷ []))
+        → slice_get left i ≡ Some s → IsBlockFault left i s fault reply → PutRefused was imp sections left i fault
+    refused reply i s fault together story here blames =
+        let f = front_of left i s here in
+        let at : i ≡ length (take i left) = let within = slice_get_within left i s here in sym (length-take-le i left (omega (arith, within))) in record {
+          puts = puts;
+          front = take i left;
+          s = s;
+          reply = reply;
+          story = story;
+          are_puts = are;
+          is_refused = record { rest = f.0; parts = f.1; is_group = together; blames = subst (λ k. IsBlockFault left k s fault reply) at blames };
+          at = at;
+        }
 
     -- the answer ends the import
-    pub ended : (group more : List Section) (reply : PutReply) (fault : ImportFault) → IsEnd reply fault → left ≡ group ++ more → GoTogether (map pair_of group)
-        → Story was imp.core (opened imp.view ∷ (puts ++ put_of imp.view group reply ∷ [])) → PutsEnded was imp sections fault
-    ended group more reply fault is parts together story =
-        record { left = left; puts = puts; last = put_of imp.view group reply ∷ []; story = story; are_puts = are; reason = by reply fault is }
-      where
-        by : (r : PutReply) (f : ImportFault) → IsEnd r f → EndsPuts imp.view puts left (put_of imp.view group r ∷ []) f
-        by put.NoMemory _ no_memory = inr (group, more, parts, together, refl)
-        by put.DiskFault _ disk_fault = (group, more, parts, together, refl)
-        by _ _ (log_full file need room) = (group, more, parts, together, refl)
-        by _ _ (table_full rows) = (group, more, parts, together, refl)
+    pub ended : (reply : PutReply) (fault : ImportFault) → EndsPut reply fault → IsGroup left → Story was imp.core (opened imp.view ∷ (puts ++ put_of imp.view left reply ∷ [])) → PutsEnded was imp sections fault
+    ended reply fault is together story =
+        record { left = left; puts = puts; last = put_of imp.view left reply ∷ []; story = story; are_puts = are; reason = spec.EndsPuts.ended (answered reply fault together is) }
 
-  -- a section's block ends the import, where all before it were stored
-  pub blocked : (imp : Importer D disk) (sections left : List Section) (p : Putting was imp sections left) (s : Section) (more : List Section) (fault : BlockFault) (offset : ℕ) → left ≡ s ∷ more → offset ≡ s.offset → IsBlockFault imp.view p.puts s fault
-      → PutsEnded was imp sections (import.BadBlock fault offset)
-  blocked imp sections left p s more fault offset first at blames = record {
-    left = left;
-    puts = p.puts;
-    last = [];
-    story = subst (λ l. Story was imp.core (opened imp.view ∷ l)) (sym (append-nil p.puts)) p.story;
-    are_puts = p.are_puts;
-    reason = (refl, s, more, first, at, blames);
-  }
+  module _ (imp : Importer D disk) (sections left : List Section) (i : ℕ) (fault : BlockFault) (p : PutRefused was imp sections left i fault) where
+    -- the block of the first section ends the import
+    pub first_blocked : (offset : ℕ) → i ≡ 0 → offset ≡ p.s.offset → PutsEnded was imp sections (import.BadBlock fault offset)
+    first_blocked offset first at = subst (λ n. PutsEnded was imp sections (import.BadBlock fault n)) (sym at) (record {
+      left = left;
+      puts = p.puts;
+      last = put_of imp.view left p.reply ∷ [];
+      story = p.story;
+      are_puts = p.are_puts;
+      reason = refused_first p.s fault p.reply (subst (λ l. IsRefused left l p.s fault p.reply) (none p.front (sym p.at ∙ first)) p.is_refused);
+    })
+      where
+        none : (l : List Section) → length l ≡ 0 → l ≡ []
+        none [] is = refl
+        none (x ∷ l) is = absurd (let no : ⊥ = omega (arith, is) in no)
+
+    some_before : (i ≡ 0 → ⊥) → 1 ≤ length p.front
+    some_before later = by (length p.front) (λ is. later (p.at ∙ is))
+      where
+        by : (n : ℕ) → (n ≡ 0 → ⊥) → 1 ≤ n
+        by zero some = absurd (some refl)
+        by (suc n) some = omega arith
+
+    -- memory ran out before the sections before it were put
+    pub front_wanting : (i ≡ 0 → ⊥) → PutsEnded was imp sections import.NoMemory
+    front_wanting later = record {
+      left = left;
+      puts = p.puts;
+      last = put_of imp.view left p.reply ∷ [];
+      story = p.story;
+      are_puts = p.are_puts;
+      reason = refused_ended p.front p.s fault p.reply p.is_refused (some_before later) not_put;
+    }
+
+    module _ (later : i ≡ 0 → ⊥) (together : GoTogether (map pair_of p.front)) (core : SplitCore D disk) (n : ℕ) (reply : PutReply)
+        (story : Story was core (opened imp.view ∷ ((p.puts ++ put_of imp.view left p.reply ∷ []) ++ put_of imp.view p.front reply ∷ []))) where
+      abbrev new : Importer D disk
+      new = record imp { core = core; new_blocks = n }
+
+      same_story : Story was core (opened imp.view ∷ (p.puts ++ put_of imp.view left p.reply ∷ put_of imp.view p.front reply ∷ []))
+      same_story = subst (λ l. Story was core (opened imp.view ∷ l)) (append_assoc p.puts (put_of imp.view left p.reply ∷ []) (put_of imp.view p.front reply ∷ [])) story
+
+      -- they were stored
+      pub front_stored : (count offset : ℕ) → reply ≡ put.Stored count → offset ≡ p.s.offset → PutsEnded was new sections (import.BadBlock fault offset)
+      front_stored count offset is at = subst (λ k. PutsEnded was new sections (import.BadBlock fault k)) (sym at) (record {
+        left = left;
+        puts = p.puts;
+        last = put_of imp.view left p.reply ∷ put_of imp.view p.front reply ∷ [];
+        story = same_story;
+        are_puts = p.are_puts;
+        reason = subst (λ r. EndsPuts imp.view left (put_of imp.view left p.reply ∷ put_of imp.view p.front r ∷ []) (import.BadBlock fault p.s.offset)) (sym is)
+            (spec.EndsPuts.refused p.front p.s fault p.reply count p.is_refused (some_before later, together));
+      })
+
+      -- or their put ended the import
+      pub front_ended : (why : ImportFault) → EndsPut reply why → PutsEnded was new sections why
+      front_ended why is = record {
+        left = left;
+        puts = p.puts;
+        last = put_of imp.view left p.reply ∷ put_of imp.view p.front reply ∷ [];
+        story = same_story;
+        are_puts = p.are_puts;
+        reason = refused_ended p.front p.s fault p.reply p.is_refused (some_before later) (answered reply why (some_before later, together) is);
+      }
 
   -- out of memory, where no put was made
   pub wanting : (imp : Importer D disk) (sections left : List Section) → Putting was imp sections left → PutsEnded was imp sections import.NoMemory
@@ -116,12 +162,12 @@ module _ {D : Type 0} {disk : Ghosts D} (was : D) where
     last = [];
     story = subst (λ l. Story was imp.core (opened imp.view ∷ l)) (sym (append-nil p.puts)) p.story;
     are_puts = p.are_puts;
-    reason = inl refl;
+    reason = spec.EndsPuts.ended not_put;
   }
 
   -- a put ended the import as a section was taken
   pub takes_ended : (imp : Importer D disk) (sections : List Section) (s : Section) (end : ℕ) (fault : ImportFault) → PutsEnded was imp sections fault → Takes was imp sections s end (Err fault)
-  takes_ended imp sections s end import.TooLong e = absurd e.reason
+  takes_ended imp sections s end import.TooLong e = absurd (never_too_long imp.view e.left e.last import.TooLong e.reason refl)
   takes_ended imp sections s end import.NoMemory e = e
   takes_ended imp sections s end import.ReadFault e = e
   takes_ended imp sections s end import.DiskFault e = e

@@ -3,7 +3,7 @@ use Rattle.std.proofs.Common.{◌≡◌, ◌⊎◌, inl, inr, ℕ, zero, suc, �
 use Rattle.std.specs.Prelude.{if◌then◌else◌}
 use Rattle.std.specs.Option.{ForSome}
 use Rattle.std.specs.Io.KnownBytes.{IsAtEnd}
-use Rattle.ss_car.specs.Bodies.{TakesStart, TakesSection, NextFault, roots_of, taken_of, input_left, Blames, FaultHasCause}
+use Rattle.ss_car.specs.Bodies.{TakesStart, TakesSection, NextFault, roots_of, taken_of, input_left, Blames}
 use Rattle.ss_car.specs.Car.{framed, Section, IsCar}
 use Rattle.ss_car.specs.declared.fault.CarFault.{CarFault}
 use Rattle.ss_car.specs.declared.fault.CarFault.TheVariants as car
@@ -151,15 +151,3 @@ module _ {S D : Type 0} (source : Source S) {disk : Ghosts D} (input : Option (L
   -- no section could be read
   pub read_refused : (refusal : CarRefusal) (fault : ImportFault) → refusal.offset ≡ taken_of old → Blames NextFault (input_left source old) refusal.fault → Refuses was now r.sections (fault_at refusal.fault refusal.offset) fault → Ended input was now fault
   read_refused refusal fault = refused_at input was now (roots_of old) r.sections are_read (input_left source old) (taken_of old) r.taken refusal.fault refusal.offset fault
-
--- the source is not blamed for a fault of the CAR
-pub car_counts : (before now : ℕ) (f : CarFault) (offset : ℕ) (kind : CarFault) (at : ℕ) → fault_at f offset ≡ import.BadCar kind at → FaultHasCause before now f → now ≡ before
-car_counts before now car.ReadFault offset kind at is cause = absurd (cc (is))
-car_counts before now car.NoMemory offset kind at is cause = cause
-car_counts before now car.Truncated offset kind at is cause = cause
-car_counts before now car.BadHeader offset kind at is cause = cause
-car_counts before now (car.BadVersion version) offset kind at is cause = cause
-car_counts before now car.ZeroSection offset kind at is cause = cause
-car_counts before now car.TooLarge offset kind at is cause = cause
-car_counts before now car.BadCid offset kind at is cause = cause
-car_counts before now car.BadLength offset kind at is cause = cause

@@ -2,13 +2,11 @@
 --
 -- A view is opened. Then sections are put in it, group by group, each as soon as it is known that no more go with it. At last, where
 -- the CAR has no fault and all its sections were put, its roots may be set as head.
-use Rattle.std.specs.{Prelude.{◌≡◌, ◌⊎◌, ℕ, ◌+◌, ◌-◌, ◌^◌, ◌<◌, ◌≤◌, min, Bool, true, false, List, [], ◌∷◌, ◌++◌, map, length, sum_by, Option, None, Some, if◌then◌else◌, Result, Ok, Err, MatchResult}, Option.ForSome}
+use Rattle.std.specs.{Prelude.{◌≡◌, ◌⊎◌, ℕ, ◌+◌, ◌-◌, ◌^◌, ◌<◌, ◌≤◌, min, Bool, true, false, List, [], ◌∷◌, ◌++◌, map, length, sum_by, Option, None, Some, Result, Ok, Err}, Option.ForSome}
 use Rattle.ss_car.specs.{Car.{Section, IsCar, StartFault}, declared.fault.CarFault.CarFault, declared.fault.CarRefusal.CarRefusal}
 use Rattle.ss_cbor.specs.declared.fault.CborKind.{CborKind}
-use Rattle.ss_device.specs.Disk.{Rose}
-use Rattle.ss_model.specs.{Lawful.{IsPairFault, AreSound, IsSmall, with_blocks}, declared.call.Call.Call, declared.call.Answer.Answer, declared.call.ViewReply.ViewReply, declared.call.PutReply.PutReply, declared.call.HeadReply.HeadReply, declared.call.Entry.Entry, Head.IsHead, State.{State, Kept}}
+use Rattle.ss_model.specs.{Lawful.{IsPairFault, AreSound, with_blocks}, declared.call.Call.Call, declared.call.Answer.Answer, declared.call.ViewReply.ViewReply, declared.call.PutReply.PutReply, declared.call.HeadReply.HeadReply, declared.call.Entry.Entry, Head.IsHead, State.{State}}
 use Rattle.ss_import.specs.{declared.fault.BlockFault.BlockFault, declared.fault.ImportFault.ImportFault, declared.importer.Imported.Imported}
-use Rattle.std.specs.FinMap as finite_map
 
 -- the number of a block's fault, which the program prints; it is this project's own
 abbrev pub block_number : BlockFault → ℕ
@@ -43,33 +41,23 @@ pair_length p = length p.0 + length p.1
 abbrev pub GoTogether : List (List ℕ × List ℕ) → Type 0
 GoTogether pairs = (length pairs ≤ 1) ⊎ ((length pairs ≤ 256) × (sum_by pair_length pairs ≤ 4194304))
 
-abbrev pub is_stored : Answer → Bool
-is_stored (Answer.Put (PutReply.Stored new)) = true
-is_stored _ = false
+-- these go into one put
+abbrev pub IsGroup : List Section → Type 0
+IsGroup group = (1 ≤ length group) × GoTogether (map pair_of group)
+
+-- a put of these sections in this view, and its answer
+abbrev pub put_of : ℕ → List Section → PutReply → Entry
+put_of v group reply = entry (Call.Put v (map pair_of group)) (Answer.Put reply)
+
+-- The entries put groups of sections in this view, each of those that come next, and all were stored. What follows them is left.
+abbrev pub ArePuts : ℕ → List Section → List Entry → List Section → Type 0
+ArePuts v sections [] left = left ≡ sections
+ArePuts v sections (e ∷ puts) left =
+    (group : List Section) × (more : List Section) × (new : ℕ) × (sections ≡ group ++ more) × IsGroup group × (e ≡ put_of v group (PutReply.Stored new)) × ArePuts v more puts left
 
 abbrev pub new_of : Answer → ℕ
 new_of (Answer.Put (PutReply.Stored new)) = new
 new_of _ = 0
-
--- the blocks of a put were stored, or one of them is refused; any other answer ends an import
-abbrev pub IsSettled : Answer → Type 0
-IsSettled (Answer.Put (PutReply.Stored new)) = Unit {0}
-IsSettled (Answer.Put (PutReply.TooBig n)) = Unit {0}
-IsSettled (Answer.Put (PutReply.UnknownHash i)) = Unit {0}
-IsSettled (Answer.Put (PutReply.Mismatch i)) = Unit {0}
-IsSettled (Answer.Put (PutReply.Malformed i kind place)) = Unit {0}
-IsSettled _ = ⊥
-
--- The entries put sections in this view, each some that come next. Those that were stored are passed; what is left was not stored.
-abbrev pub ArePuts : ℕ → List Section → List Entry → List Section → Type 0
-ArePuts v sections [] left = left ≡ sections
-ArePuts v sections (e ∷ h) left =
-    (group : List Section) × (more : List Section) × (sections ≡ group ++ more) × (GoTogether (map pair_of group) × (e ≡ entry (Call.Put v (map pair_of group)) e.answer)) × IsSettled e.answer × ArePuts v (if is_stored e.answer then more else sections) h left
-
--- the last entry puts some of these sections, and is answered so
-abbrev pub IsLastPut : ℕ → List Section → List Entry → PutReply → Type 0
-IsLastPut v left last reply =
-    (group : List Section) × (more : List Section) × (left ≡ group ++ more) × GoTogether (map pair_of group) × (last ≡ entry (Call.Put v (map pair_of group)) (Answer.Put reply) ∷ [])
 
 -- how many of the blocks that were stored were new
 abbrev pub new_in : List Entry → ℕ
@@ -100,21 +88,42 @@ IsWhole input roots sections = ForSome input (λ bytes. (length bytes ≤ 2 ^ 40
 
 -- ---- why an import ends
 
--- the block of a section is not stored for this fault; one that is too large was put alone, at last
-abbrev pub IsBlockFault : ℕ → List Entry → Section → BlockFault → Type 0
-IsBlockFault v puts s BlockFault.TooLarge = (n : ℕ) × (before : List Entry) × (puts ≡ before ++ entry (Call.Put v (pair_of s ∷ [])) (Answer.Put (PutReply.TooBig n)) ∷ [])
-IsBlockFault v puts s BlockFault.UnknownHash = IsPairFault 0 (pair_of s) (PutReply.UnknownHash 0)
-IsBlockFault v puts s BlockFault.Mismatch = IsPairFault 0 (pair_of s) (PutReply.Mismatch 0)
-IsBlockFault v puts s BlockFault.Malformed = (kind : CborKind) × (place : ℕ) × IsPairFault 0 (pair_of s) (PutReply.Malformed 0 kind place)
+-- the answer to a put that ends the import by this fault
+pub data EndsPut : PutReply → ImportFault → Type 0 where
+  no_memory : EndsPut PutReply.NoMemory ImportFault.NoMemory
+  disk_fault : EndsPut PutReply.DiskFault ImportFault.DiskFault
+  log_full : (file need room : ℕ) → EndsPut (PutReply.LogFull file need room) (ImportFault.LogFull file need room)
+  table_full : (rows : ℕ) → EndsPut (PutReply.TableFull rows) (ImportFault.TableFull rows)
 
--- a put ends the import, or one of its blocks does: these sections are left
-abbrev pub EndsPuts : ℕ → List Entry → List Section → List Entry → ImportFault → Type 0
-EndsPuts v puts left last ImportFault.NoMemory = (last ≡ []) ⊎ IsLastPut v left last PutReply.NoMemory
-EndsPuts v puts left last ImportFault.DiskFault = IsLastPut v left last PutReply.DiskFault
-EndsPuts v puts left last (ImportFault.LogFull file need room) = IsLastPut v left last (PutReply.LogFull file need room)
-EndsPuts v puts left last (ImportFault.TableFull rows) = IsLastPut v left last (PutReply.TableFull rows)
-EndsPuts v puts left last (ImportFault.BadBlock fault offset) = (last ≡ []) × (s : Section) × (more : List Section) × (left ≡ s ∷ more) × (offset ≡ s.offset) × IsBlockFault v puts s fault
-EndsPuts v puts left last _ = ⊥
+-- the answer to the put of this group ends the import, or memory ran out before it
+pub data EndsAt (v : ℕ) (group : List Section) : List Entry → ImportFault → Type 0 where
+  not_put : EndsAt v group [] ImportFault.NoMemory
+  answered : (reply : PutReply) (fault : ImportFault) → IsGroup group → EndsPut reply fault → EndsAt v group (put_of v group reply ∷ []) fault
+
+-- the answer refuses a put of this group for the block of its section at this index; only one block alone is too large
+abbrev pub IsBlockFault : List Section → ℕ → Section → BlockFault → PutReply → Type 0
+IsBlockFault group i s BlockFault.TooLarge reply = (group ≡ s ∷ []) × (n : ℕ) × (reply ≡ PutReply.TooBig n)
+IsBlockFault group i s BlockFault.UnknownHash reply = (reply ≡ PutReply.UnknownHash i) × IsPairFault i (pair_of s) (PutReply.UnknownHash i)
+IsBlockFault group i s BlockFault.Mismatch reply = (reply ≡ PutReply.Mismatch i) × IsPairFault i (pair_of s) (PutReply.Mismatch i)
+IsBlockFault group i s BlockFault.Malformed reply = (kind : CborKind) × (place : ℕ) × (reply ≡ PutReply.Malformed i kind place) × IsPairFault i (pair_of s) (PutReply.Malformed i kind place)
+
+-- a put of this group is refused for the block of this section, before which it has these
+pub record IsRefused (group front : List Section) (s : Section) (fault : BlockFault) (reply : PutReply) : Type 0 where
+  pub rest : List Section
+  pub parts : group ≡ front ++ s ∷ rest
+  pub is_group : IsGroup group
+  pub blames : IsBlockFault group (length front) s fault reply
+
+-- How a put of what is left ends the import, once the groups before it were stored: by its answer; or it is refused for a block,
+-- and then the sections before that one, if there are some, are put.
+pub data EndsPuts (v : ℕ) (left : List Section) : List Entry → ImportFault → Type 0 where
+  ended : {last : List Entry} {fault : ImportFault} → EndsAt v left last fault → EndsPuts v left last fault
+  refused_first : (s : Section) (bad : BlockFault) (reply : PutReply) → IsRefused left [] s bad reply →
+      EndsPuts v left (put_of v left reply ∷ []) (ImportFault.BadBlock bad s.offset)
+  refused : (front : List Section) (s : Section) (bad : BlockFault) (reply : PutReply) (new : ℕ) → IsRefused left front s bad reply → IsGroup front →
+      EndsPuts v left (put_of v left reply ∷ put_of v front (PutReply.Stored new) ∷ []) (ImportFault.BadBlock bad s.offset)
+  refused_ended : (front : List Section) (s : Section) (bad : BlockFault) (reply : PutReply) {last : List Entry} {fault : ImportFault} →
+      IsRefused left front s bad reply → 1 ≤ length front → EndsAt v front last fault → EndsPuts v left (put_of v left reply ∷ last) fault
 
 -- the CAR ends the import by a fault of its own, once all sections before it were stored
 abbrev pub EndsReading : Option (List ℕ) → List (List ℕ) → List Section → List Section → ImportFault → Type 0
@@ -135,13 +144,13 @@ EndsHead (HeadReply.LogFull file need room) fault = fault ≡ ImportFault.LogFul
 EndsHead (HeadReply.Set height) fault = ⊥
 EndsHead reply fault = fault ≡ ImportFault.BadHead reply
 
--- Why an import ends so: these sections were read, and these of them are left; the last entry stands behind the settled puts.
+-- Why an import ends so: these sections were read, and these of them are left; the last entries come after the puts that were stored.
 abbrev pub HasReason : Bool → Option (List ℕ) → List (List ℕ) → List Section → List Section → ℕ → List Entry → List Entry → Result Imported ImportFault → Type 0
 HasReason wants input roots sections left v puts last (Ok done) =
     (left ≡ []) × IsWhole input roots sections × (done.sections ≡ length sections) × (done.new ≡ min (new_in puts) (2 ^ 64 - 1))
     × (((wants ≡ false) × (last ≡ []) × (done.height ≡ None)) ⊎ ((wants ≡ true) × (height : ℕ) × IsLastHead roots last (HeadReply.Set height) × (done.height ≡ Some height)))
 HasReason wants input roots sections left v puts last (Err fault) =
-    EndsPuts v puts left last fault
+    EndsPuts v left last fault
     ⊎ (((last ≡ []) × EndsReading input roots sections left fault)
     ⊎ ((wants ≡ true) × (left ≡ []) × IsWhole input roots sections × (reply : HeadReply) × IsLastHead roots last reply × EndsHead reply fault))
 
@@ -161,15 +170,6 @@ pub record IsImport (Did : List Entry → Type 0) (wants : Bool) (input : Option
 -- all its entries
 abbrev pub entries_of : {Did : List Entry → Type 0} {wants : Bool} {input : Option (List ℕ)} {result : Result Imported ImportFault} → IsImport Did wants input result → List Entry
 entries_of i = entry Call.OpenView (Answer.View (ViewReply.Opened i.view)) ∷ (i.puts ++ i.last)
-
--- the source's count of faults rose where it failed, and stayed for every other fault
-abbrev pub FaultCounts : ℕ → ℕ → ImportFault → Type 0
-FaultCounts before now ImportFault.ReadFault = Rose before now
-FaultCounts before now _ = now ≡ before
-
--- the same of an import or a part of it, where the count stays without a fault
-abbrev pub CountsSource : {X : Type 0} → ℕ → ℕ → Result X ImportFault → Type 0
-CountsSource before now result = MatchResult result (λ _. now ≡ before) (FaultCounts before now)
 
 -- Nothing of a CAR and of a state stands in the way of an import: the CAR is whole and no longer than it may be, its blocks may be
 -- stored, and its roots are a tipset then.

@@ -1,14 +1,14 @@
 -- How far an import has come, and what a step of it comes to.
-use Rattle.std.specs.{Prelude.{◌≡◌, ◌⊎◌, ℕ, ◌^◌, ◌<◌, Bool, true, false, List, [], ◌∷◌, ◌++◌, length, Option, Result, Ok, Err, MatchResult, ◌-◌, ◌≤◌, min, map, sum_by, All, None, Some}, Option.ForSome}
+use Rattle.std.specs.{Prelude.{◌≡◌, ◌≢◌, ◌⊎◌, ℕ, ◌^◌, ◌<◌, Bool, true, false, List, [], ◌∷◌, ◌++◌, length, Option, Result, Ok, Err, MatchResult, ◌-◌, ◌≤◌, min, map, sum_by, All, None, Some}, Option.ForSome}
 use Rattle.ss_car.specs.{Car.{Section}, Bodies.{roots_of, taken_of, refusal_of, input_left, input_faults, input_place}, declared.reader.CarReader.CarReader}
 use Rattle.ss_cbor.specs.declared.fault.CborKind.{CborKind}
-use Rattle.ss_device.specs.declared.disk.Disk.{Ghosts}
+use Rattle.ss_device.specs.{declared.disk.Disk.Ghosts, Faults.CountsFault}
 use Rattle.ss_io.specs.declared.source.Source.{Ghosts as Source}
 use Rattle.ss_model.specs.{Lawful.{IsFirstFault, IsSmall}, declared.TheConstants.PUT_BYTES, declared.call.Call.Call, declared.call.Answer.Answer, declared.call.PutReply.PutReply, declared.call.ViewReply.ViewReply, declared.call.Entry.Entry}
 use Rattle.ss_core.specs.Replies.{held_put_bytes}
 use Rattle.ss_core.specs.declared.split_core.SplitCore.{SplitCore}
 use Rattle.ss_history.specs.Story.{Story}
-use Rattle.ss_import.specs.{declared.fault.BlockFault.BlockFault, declared.fault.ImportFault.ImportFault, declared.importer.PutFault.PutFault, declared.importer.Importer.Importer, Import.{entry, BeginsWith, ArePuts, EndsPuts, EndsReading, IsWhole, AreRead, FaultCounts, CountsSource, pair_of, pair_length, GoTogether, new_in}, declared.group.Group.Group}
+use Rattle.ss_import.specs.{declared.fault.BlockFault.BlockFault, declared.fault.ImportFault.ImportFault, declared.importer.PutFault.PutFault, declared.importer.Importer.Importer, Import.{entry, BeginsWith, ArePuts, EndsPuts, EndsReading, IsWhole, AreRead, pair_of, pair_length, GoTogether, put_of, IsRefused, new_in}, declared.group.Group.Group}
 use Rattle.std.specs.FinSet as finite_set
 
 -- where an input exposes its bytes, the header and these sections were taken from it, up to this offset
@@ -32,7 +32,7 @@ pub record IsReady {D : Type 0} {disk : Ghosts D} (imp : Importer D disk) : Type
 
 -- over any disk the next section may come, or a fault ends the import that is none of the source
 abbrev pub Continues : {D : Type 0} {disk : Ghosts D} → Importer D disk → Result (Unit {0}) ImportFault → Type 0
-Continues imp result = MatchResult result (λ _. IsReady imp) (λ fault. (before : ℕ) → FaultCounts before before fault)
+Continues imp result = MatchResult result (λ _. IsReady imp) (λ fault. fault ≢ ImportFault.ReadFault)
 
 -- what holds between two sections of an import, of which no more were read than bytes
 pub record IsBetween {S D : Type 0} {disk : Ghosts D} (imp : Importer D disk) (reader : CarReader S) : Type 0 where
@@ -43,7 +43,7 @@ pub record IsBetween {S D : Type 0} {disk : Ghosts D} (imp : Importer D disk) (r
 
 -- the reader's source stays where it is, and counts a fault where one of its own ends the import
 abbrev pub UsesSource : {S X : Type 0} → Source S → CarReader S → CarReader S → Result X ImportFault → Type 0
-UsesSource source old new result = CountsSource (input_faults source old) (input_faults source new) result × (input_place source new ≡ input_place source old)
+UsesSource source old new result = CountsFault ImportFault.ReadFault (input_faults source old) (input_faults source new) result × (input_place source new ≡ input_place source old)
 
 -- of the sections that were read these are left, and the others stored
 pub record Putting {D : Type 0} {disk : Ghosts D} (was : D) (imp : Importer D disk) (sections left : List Section) : Type 0 where
@@ -59,7 +59,18 @@ pub record PutsEnded {D : Type 0} {disk : Ghosts D} (was : D) (imp : Importer D 
   pub last : List Entry
   pub story : Story was imp.core (entry Call.OpenView (Answer.View (ViewReply.Opened imp.view)) ∷ (puts ++ last))
   pub are_puts : ArePuts imp.view sections puts left
-  pub reason : EndsPuts imp.view puts left last fault
+  pub reason : EndsPuts imp.view left last fault
+
+-- what is left was put, and refused for the block at this index
+pub record PutRefused {D : Type 0} {disk : Ghosts D} (was : D) (imp : Importer D disk) (sections left : List Section) (i : ℕ) (fault : BlockFault) : Type 0 where
+  pub puts : List Entry
+  pub front : List Section
+  pub s : Section
+  pub reply : PutReply
+  pub story : Story was imp.core (entry Call.OpenView (Answer.View (ViewReply.Opened imp.view)) ∷ (puts ++ put_of imp.view left reply ∷ []))
+  pub are_puts : ArePuts imp.view sections puts left
+  pub is_refused : IsRefused left front s fault reply
+  pub at : i ≡ length front
 
 -- all sections were put, or a put ended the import
 abbrev pub PutsAll : {D : Type 0} {disk : Ghosts D} → D → Importer D disk → List Section → Result (Unit {0}) ImportFault → Type 0

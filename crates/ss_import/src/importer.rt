@@ -1,12 +1,14 @@
 //! The calls of an import, in order.
-ghost use Rattle.std.specs.Prelude.{◌≡◌, ◌+◌, ◌-◌, ◌<◌, ◌≤◌, ◌^◌, ℕ, List, [], Option, None, Ok, true, OnOk, MatchResult, length, max, min, slice_get};
+ghost use Rattle.std.specs.Prelude.{◌≡◌, ◌≢◌, ◌↔◌, ◌+◌, ◌-◌, ◌<◌, ◌≤◌, ◌^◌, ℕ, List, [], Option, None, Ok, true, false, IfErr, OnOk, MatchResult, length, max, min};
 ghost use Rattle.std.specs.FinSet as finite_set;
+ghost use Rattle.std.specs.Io.KnownBytes.{IsAtEnd};
 ghost use Rattle.ss_car.specs.Car.{Section};
-ghost use Rattle.ss_car.specs.Bodies.{roots_of, taken_of, FaultHasCause};
+ghost use Rattle.ss_car.specs.Bodies.{roots_of, taken_of, input_left, IsReadFault};
 ghost use Rattle.ss_core.specs.Replies.{held_bytes};
+ghost use Rattle.ss_device.specs.Faults.{CountsFault};
 ghost use Rattle.ss_history.specs.Story.{Story};
-ghost use Rattle.ss_import.specs.Import.{IsImport, FaultCounts, CountsSource, IsBlockFault, EndsHead, fault_of};
-ghost use Rattle.ss_import.specs.Steps.{IsReady, Holds, Continues, IsBetween, UsesSource, Putting, PutsAll, PutsEnded, outcome_of, IsGroupReply, IsDueBlock, Takes, Refuses, Reading, WasRead, Stepped};
+ghost use Rattle.ss_import.specs.Import.{IsImport, EndsHead, fault_of};
+ghost use Rattle.ss_import.specs.Steps.{IsReady, Holds, Continues, IsBetween, UsesSource, Putting, PutsAll, PutsEnded, PutRefused, outcome_of, IsGroupReply, IsDueBlock, Takes, Refuses, Reading, WasRead, Stepped};
 ghost use Rattle.ss_import.specs.declared.fault.BlockFault.{BlockFault};
 ghost use Rattle.ss_import.specs.declared.importer.PutFault.TheVariants as group;
 ghost use Rattle.ss_model.specs.Lawful.{IsSmall};
@@ -49,7 +51,8 @@ pub fn import<S: Source, D: Disk>(
 ) -> (Result<Imported, ImportFault>, SplitCore<D>)
     requires { core.views ≡ finite_set.empty }
     ensures import { (was : D) → Story was core [] → IsImport (Story was result.1) head (S.left source.old) result.0 }
-    ensures faults { CountsSource (S.faults source.old) (S.faults source.new) result.0 }
+    ensures faults { CountsFault ImportFault.ReadFault (S.faults source.old) (S.faults source.new) result.0 }
+    ensures ended { OnOk result.0 (IsAtEnd (S.left source.new)) }
 {
     let mut importer = Importer::new(alloc, core);
     let result = importer.read(alloc, source, head);
@@ -107,7 +110,8 @@ impl<D: Disk> Importer<D> {
         requires ready { IsReady self.old }
         requires sections { self.old.sections ≡ 0 }
         ensures import { (was : D) → Putting was self.old [] [] → Holds self.old.group [] → IsImport (Story was self.new.core) head (S.left source.old) result }
-        ensures faults { CountsSource (S.faults source.old) (S.faults source.new) result }
+        ensures faults { CountsFault ImportFault.ReadFault (S.faults source.old) (S.faults source.new) result }
+        ensures ended { OnOk result (IsAtEnd (S.left source.new)) }
     {
         let mut reader = match CarReader::open(alloc, source) {
             Ok(reader) => reader,
@@ -128,6 +132,7 @@ impl<D: Disk> Importer<D> {
         requires { IsBetween self.old reader.old }
         ensures import { (input : Option (List ℕ)) (was : D) → Reading S.Source input was self.old reader.old → IsImport (Story was self.new.core) head input result }
         ensures source { UsesSource S.Source reader.old reader.new result }
+        ensures ended { OnOk result (IsAtEnd (input_left S.Source reader.new)) }
     {
         while self.step(alloc, reader)? {}
         self.finish(alloc, reader.roots(), head)
@@ -144,6 +149,7 @@ impl<D: Disk> Importer<D> {
         ensures more { result ≡ Ok true → taken_of reader.old < taken_of reader.new }
         ensures step { (input : Option (List ℕ)) (was : D) → Reading S.Source input was self.old reader.old → Stepped S.Source input was self.new reader.new result }
         ensures source { UsesSource S.Source reader.old reader.new result }
+        ensures ended { result ≡ Ok false → IsAtEnd (input_left S.Source reader.new) }
         ensures roots { roots_of reader.new ≡ roots_of reader.old }
     {
         let offset = reader.taken();
@@ -206,7 +212,7 @@ impl<D: Disk> Importer<D> {
     fn refuse(&mut self, alloc: Global, refusal: CarRefusal) -> ImportFault
         requires { IsReady self.old }
         ensures refuses { (was : D) (sections left : List Section) → Putting was self.old sections left → Holds self.old.group left → Refuses was self.new sections (fault_of refusal) result }
-        ensures faults { (before now : ℕ) → FaultHasCause before now refusal.fault → FaultCounts before now result }
+        ensures source { (result ≡ ImportFault.ReadFault) ↔ IsReadFault refusal.fault }
     {
         let fault = ImportFault::from(refusal);
         match fault {
@@ -251,9 +257,9 @@ impl<D: Disk> Importer<D> {
     fn put_before(&mut self, alloc: Global, i: u32, fault: BlockFault) -> ImportFault
         requires ready { IsReady self.old }
         requires due { (i < length self.old.group.parcel) × IsDueBlock self.old.core self.old.group.parcel i fault }
-        ensures puts { (was : D) (sections left : List Section) (p : Putting was self.old sections left) (s : Section) → Holds self.old.group left → slice_get left i ≡ Some s → IsBlockFault self.old.view p.puts s fault → PutsEnded was self.new sections result }
+        ensures puts { (was : D) (sections left : List Section) → PutRefused was self.old sections left i fault → Holds self.old.group left → PutsEnded was self.new sections result }
         ensures count { self.new.sections ≡ self.old.sections }
-        ensures faults { (before : ℕ) → FaultCounts before before result }
+        ensures source { result ≢ ImportFault.ReadFault }
     {
         let offset = self.group.offsets[i as usize];
         let refused = ImportFault::BadBlock { fault, offset };
@@ -276,7 +282,7 @@ impl<D: Disk> Importer<D> {
     // Sets the roots as head, if it is wanted, and tells what was done.
     fn finish(&mut self, alloc: Global, roots: &Cids, head: bool) -> Result<Imported, ImportFault>
         ensures import { (input : Option (List ℕ)) (was : D) → WasRead input was self.old roots.now → IsImport (Story was self.new.core) head input result }
-        ensures faults { (before : ℕ) → CountsSource before before result }
+        ensures source { IfErr result (λ fault. fault ≢ ImportFault.ReadFault) }
     {
         let height = if head {
             Some(set(self.core.set_head(alloc, roots))?)

@@ -1,5 +1,5 @@
 -- What is left of a buffered source, as its buffer is filled and taken from.
-use Rattle.std.proofs.Common.{◌≡◌, ℕ, ◌+◌, ◌-◌, ◌≤◌, List, [], ◌++◌, length, take, drop, min, refl, sym, ◌∙◌, ap, append_assoc, arith, length-append}
+use Rattle.std.proofs.Common.{◌≡◌, ℕ, ◌+◌, ◌≤◌, List, [], ◌∷◌, ◌++◌, length, take, drop, min, refl, sym, ◌∙◌, ap, append_assoc, arith, length-append}
 use Rattle.std.specs.Prelude.{Option, None, Some}
 use Rattle.std.proofs.lemmas.List.{take-append-drop, length-take}
 use Rattle.std.proofs.Math.ListN.{drop_of_length-le}
@@ -15,6 +15,12 @@ Keeps-before_none (Some xs) = refl
 pub IsAtEnd-before_none : (rest : Option (List ℕ)) (bytes : List ℕ) → bytes ≡ [] → IsAtEnd rest → IsAtEnd (before bytes rest)
 IsAtEnd-before_none None bytes none ended = tt
 IsAtEnd-before_none (Some xs) bytes none ended = ap (λ b. b ++ xs) none ∙ ended
+
+-- bytes that come before others end where these end
+pub IsAtEnd-after : (rest : Option (List ℕ)) (bytes : List ℕ) → IsAtEnd (before bytes rest) → IsAtEnd rest
+IsAtEnd-after None bytes ended = tt
+IsAtEnd-after (Some xs) [] ended = ended
+IsAtEnd-after (Some xs) (b ∷ bytes) ended = absurd (let no : ⊥ = cc (ended) in no)
 
 -- bytes of the buffer are taken
 pub Consumes-buffered : (rest : Option (List ℕ)) (bytes left : List ℕ) (n : ℕ) → left ≡ drop n bytes → Consumes (before bytes rest) (before left rest) (take n bytes)

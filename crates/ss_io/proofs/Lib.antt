@@ -1,2 +1,2 @@
 pub mod Told
-mod Buffers
+pub mod Buffers

@@ -23,7 +23,7 @@ pub struct Buffered<S> {
 }
 
 impl<S: Source + Drop> Buffered<S> {
-    ghost use Rattle.ss_io.specs.Buffered.{buffered_of};
+    ghost use Rattle.ss_io.specs.Buffered.{before, buffered_of};
 
     /// The source, of which nothing is buffered yet. Out of memory, the source comes back.
     pub fn new(alloc: Global, source: S) -> Result<Buffered<S>, (NoMemory, S)>
@@ -45,6 +45,7 @@ impl<S: Source + Drop> Buffered<S> {
 
     /// The source. Bytes that are buffered are lost.
     pub fn into_inner(self) -> S
+        ensures left { ⟦<Buffered<S> as Source>⟧.left self ≡ before (buffered_of self) (S.left result) }
         ensures faults { S.faults result ≡ ⟦<Buffered<S> as Source>⟧.faults self }
         ensures place { S.place result ≡ ⟦<Buffered<S> as Source>⟧.place self }
     {

@@ -5,7 +5,7 @@ use std::error::Error;
 use std::fmt;
 
 /// The answer of a source or a sink that could not do its work. Its count of faults rose in that call.
-#[derive(Clone, Copy, Debug, PartialEq, Eq, Hash)]
+#[derive(Clone, Copy, Debug, PartialEq, Eq)]
 pub struct Failed;
 
 impl fmt::Display for Failed {

@@ -7,7 +7,7 @@ use crate::failed::count_fault;
 use std::{fmt, io};
 
 /// What a standard stream was asked for.
-#[derive(Clone, Copy, Debug, PartialEq, Eq, Hash)]
+#[derive(Clone, Copy, Debug, PartialEq, Eq)]
 pub enum StreamCall {
     /// To give bytes.
     Read,

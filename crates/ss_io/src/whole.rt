@@ -13,7 +13,7 @@ use std::alloc::{AllocError, Global};
 const PIECE_BYTES: usize = 65536;
 
 /// Why a source was not read to its end.
-#[derive(Clone, Copy, Debug, PartialEq, Eq, Hash)]
+#[derive(Clone, Copy, Debug, PartialEq, Eq)]
 pub enum ReadAllFault {
     /// The source failed.
     Failed,

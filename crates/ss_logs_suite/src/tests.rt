@@ -1,3 +1,4 @@
 mod disk;
 mod hot;
 mod log;
+mod meta;

@@ -19,7 +19,7 @@ use std::test::Fail;
 use stored::{Stored, store};
 
 /// A graph of blocks that grows from a seed: those that were stored of it, and the CIDs that were shown.
-#[derive(Debug, Drop)]
+#[derive(Drop)]
 struct RandomGraph {
     random: Random,
     size: u64,

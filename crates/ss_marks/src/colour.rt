@@ -1,7 +1,7 @@
 //! Colours.
 
 /// How far marking has come with a row.
-#[derive(Clone, Copy, Debug, PartialEq, Eq, Hash)]
+#[derive(Clone, Copy, Debug, PartialEq, Eq)]
 pub enum Colour {
     /// Not reached.
     White,

@@ -4,7 +4,7 @@ use std::error::Error;
 use std::fmt;
 
 /// Why rows could not be reserved. The marks stay as they were.
-#[derive(Clone, Copy, Debug, PartialEq, Eq, Hash)]
+#[derive(Clone, Copy, Debug, PartialEq, Eq)]
 pub enum RowFault {
     /// Out of memory.
     NoMemory,

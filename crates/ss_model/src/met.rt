@@ -9,7 +9,7 @@ use std::alloc::Global;
 use std::collections::BTreeSet;
 
 /// The CIDs that a search has met, each once, and those of them whose blocks wait to be read.
-#[derive(Debug, Drop)]
+#[derive(Drop)]
 pub(crate) struct Met {
     pub cids: BTreeSet<Cid>,
     waiting: Vec<Cid>,

@@ -5,7 +5,7 @@ use std::error::Error;
 use std::fmt;
 
 /// Why a body could not be read as a record.
-#[derive(Clone, Copy, Debug, PartialEq, Eq, Hash)]
+#[derive(Clone, Copy, Debug, PartialEq, Eq)]
 pub enum RecordFault {
     /// The body is no record's spelling. `at` is the offset, counted from 0, of the first byte of the first
     /// field that does not fit; or the body's length, where it ends early or has bytes too many.
@@ -27,7 +27,7 @@ impl Error for RecordFault {}
 
 /// A fault of the bytes that a reader met, by how many of them are left from it on, so that no reader needs
 /// to know its offset in the body.
-#[derive(Clone, Copy, Debug)]
+#[derive(Clone, Copy)]
 pub(crate) struct Misfit {
     pub left: usize,
 }
@@ -52,7 +52,7 @@ impl Misfit {
 }
 
 /// Why a reader that takes memory stopped.
-#[derive(Clone, Copy, Debug)]
+#[derive(Clone, Copy)]
 pub(crate) enum Fault {
     Bad(Misfit),
     NoMemory,

@@ -6,7 +6,7 @@ use crate::record::{KIND_PUT, Record};
 use ss_cid::Cid;
 
 /// A block in the body of a Put.
-#[derive(Clone, Copy, Debug, PartialEq, Eq, Hash)]
+#[derive(Clone, Copy, Debug, PartialEq, Eq)]
 pub struct BlockPlace {
     /// The block's CID.
     pub cid: Cid,

@@ -24,7 +24,7 @@ pub(crate) const KIND_COPIED: u8 = 0x14;
 pub(crate) const KIND_PURGED: u8 = 0x15;
 
 /// What becomes of a block that no reachable block leads to.
-#[derive(Clone, Copy, Debug, PartialEq, Eq, Hash)]
+#[derive(Clone, Copy, Debug, PartialEq, Eq)]
 pub enum Mode {
     /// It is forgotten.
     Discard,
@@ -35,7 +35,7 @@ pub enum Mode {
 /// The settings of a store, which are fixed when it is made.
 ///
 /// The bounds are those of a record that is read or written. The type itself keeps none.
-#[derive(Clone, Copy, Debug, PartialEq, Eq, Hash)]
+#[derive(Clone, Copy, Debug, PartialEq, Eq)]
 pub struct Config {
     /// What becomes of the blocks that a compaction takes out of the hot store.
     pub mode: Mode,

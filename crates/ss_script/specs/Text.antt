@@ -1,7 +1,7 @@
 -- The printed text of a history, one line an entry, as docs/FORMATS.md has it, and what writing a text leaves in a sink.
 use Rattle.std.specs.{Prelude.{ℕ, ◌+◌, ◌==◌, Bool, List, [], ◌∷◌, ◌++◌, if◌then◌else◌, Option, None, Some, codes, length, Result}, List.flat_map, Fmt.decimal}
 use Rattle.hex.specs.Hex.{encode_lower}
-use Rattle.ss_cbor.specs.declared.fault.CborKind.{CborKind}
+use Rattle.ss_cbor.specs.Fault.{number_of}
 use Rattle.ss_model.specs.{declared.TheConstants.{NO_VIEW, COMPACTOR}, declared.call.Call.Call, declared.call.Answer.Answer, declared.call.Entry.Entry, declared.call.ViewReply.ViewReply, declared.call.PutReply.PutReply, declared.call.GetReply.GetReply, declared.call.CloseReply.CloseReply, declared.call.HasReply.HasReply, declared.call.SizeReply.SizeReply, declared.call.HeadReply.HeadReply, declared.call.Info.Info}
 use Rattle.ss_records.specs.{declared.record.Config.Config, declared.record.Mode.Mode}
 use Rattle.ss_io.specs.{Streams.{HasCause, PutAppends}, declared.sink.Sink.Ghosts}
@@ -50,24 +50,13 @@ abbrev pub close_reply_text : CloseReply → List ℕ
 close_reply_text CloseReply.Closed = codes "closed"
 close_reply_text CloseReply.BadView = codes "bad-view"
 
--- the number of what is wrong with bytes that are no item
-abbrev pub item_fault_number : CborKind → ℕ
-item_fault_number CborKind.Truncated = 1
-item_fault_number CborKind.LongHead = 2
-item_fault_number CborKind.Indefinite = 3
-item_fault_number CborKind.OtherTag = 4
-item_fault_number CborKind.BadLink = 5
-item_fault_number CborKind.BadSimple = 6
-item_fault_number CborKind.Trailing = 7
-item_fault_number CborKind.CountTooLarge = 8
-
 abbrev pub put_reply_text : PutReply → List ℕ
 put_reply_text PutReply.BadView = codes "bad-view"
 put_reply_text (PutReply.TooMany n) = codes "too-many" ++ numbers_text (n ∷ [])
 put_reply_text (PutReply.TooBig n) = codes "too-big" ++ numbers_text (n ∷ [])
 put_reply_text (PutReply.TooLarge i) = codes "too-large" ++ numbers_text (i ∷ [])
 put_reply_text (PutReply.UnknownHash i) = codes "unknown-hash" ++ numbers_text (i ∷ [])
-put_reply_text (PutReply.Malformed i kind at) = codes "malformed" ++ numbers_text (i ∷ item_fault_number kind ∷ at ∷ [])
+put_reply_text (PutReply.Malformed i kind at) = codes "malformed" ++ numbers_text (i ∷ number_of kind ∷ at ∷ [])
 put_reply_text (PutReply.Mismatch i) = codes "mismatch" ++ numbers_text (i ∷ [])
 put_reply_text PutReply.NoMemory = codes "no-memory"
 put_reply_text (PutReply.TableFull rows) = codes "table-full" ++ numbers_text (rows ∷ [])

@@ -67,7 +67,7 @@ impl<T: Drop> From<AllocFailed<T>> for ScriptFault {
 }
 
 /// Why a line is not read.
-#[derive(Clone, Copy, Debug, PartialEq, Eq)]
+#[derive(Clone, Copy, PartialEq, Eq)]
 pub(crate) enum LineFault {
     /// The line is not valid.
     Bad(ScriptKind),

@@ -2,10 +2,9 @@
 
 ghost use Rattle.std.specs.Prelude.{◌≡◌, ◌≤◌, ◌++◌, IfErr, codes, length};
 ghost use Rattle.hex.specs.Hex.{encode_lower};
-ghost use Rattle.ss_script.specs.Text.{Writes, named_text, bytes_text, view_text, client_text, call_text, view_reply_text, close_reply_text, item_fault_number, put_reply_text, get_reply_text, has_reply_text, size_reply_text, head_reply_text, height_text, flag_number, info_text, mode_text, settings_text, answer_text, entry_text};
+ghost use Rattle.ss_script.specs.Text.{Writes, named_text, bytes_text, view_text, client_text, call_text, view_reply_text, close_reply_text, put_reply_text, get_reply_text, has_reply_text, size_reply_text, head_reply_text, height_text, flag_number, info_text, mode_text, settings_text, answer_text, entry_text};
 
 use crate::numbers::{put_decimal, put_number, put_numbers};
-use ss_cbor::CborKind;
 use ss_io::{Failed, Sink};
 use ss_model::{
     Answer, COMPACTOR, Call, CloseReply, Entry, GetReply, HasReply, HeadReply, Info, NO_VIEW,
@@ -139,7 +138,7 @@ fn put_put_reply<K: Sink>(sink: &mut K, reply: PutReply) -> Result<(), Failed>
         PutReply::TooLarge { i } => put_numbers(sink, b"too-large", &[u64::from(i)]),
         PutReply::UnknownHash { i } => put_numbers(sink, b"unknown-hash", &[u64::from(i)]),
         PutReply::Malformed { i, kind, at } => {
-            let kind = item_fault_number(kind);
+            let kind = u64::from(u8::from(kind));
             put_numbers(sink, b"malformed", &[u64::from(i), kind, u64::from(at)])
         }
         PutReply::Mismatch { i } => put_numbers(sink, b"mismatch", &[u64::from(i)]),
@@ -151,12 +150,6 @@ fn put_put_reply<K: Sink>(sink: &mut K, reply: PutReply) -> Result<(), Failed>
         PutReply::DiskFault => sink.put(b"fault"),
         PutReply::Stored { new } => put_numbers(sink, b"stored", &[u64::from(new)]),
     }
-}
-
-fn item_fault_number(kind: CborKind) -> u64
-    ensures { result ≡ item_fault_number kind }
-{
-    kind as u64
 }
 
 fn put_get_reply<K: Sink>(sink: &mut K, reply: &GetReply) -> Result<(), Failed>

@@ -1,4 +1,4 @@
-mod Appended
+pub mod Appended
 pub mod Faults
 pub mod Maps
 pub mod Pairs

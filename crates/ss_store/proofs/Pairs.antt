@@ -31,29 +31,30 @@ module _ {X : Type 0} where
   without_cids-push held [] c = refl
   without_cids-push held (d ∷ cs) c = without_cids-push (finite_map.remove held d) cs c
 
-  -- what holds of each value
-  abbrev pub Each : (X → Type 0) → CidMap X → Type 0
-  Each P held = (c : List ℕ) (x : X) → finite_map.get held c ≡ Some x → P x
+  -- what holds of each value and its CID
+  abbrev pub Each : (List ℕ → X → Type 0) → CidMap X → Type 0
+  Each P held = (c : List ℕ) (x : X) → finite_map.get held c ≡ Some x → P c x
 
-  found : (P : X → Type 0) (b : Bool) (new : X) (old : Option X) (x : X) → P new → (old ≡ Some x → P x) → cond b (Some new) old ≡ Some x → P x
-  found P true new old x one all is = subst P (let same : new ≡ x = cc in same) one
+  found : (P : X → Type 0) (b : Bool) (new : X) (old : Option X) (x : X) → (b ≡ true → P new) → (old ≡ Some x → P x) → cond b (Some new) old ≡ Some x → P x
+  found P true new old x one all is = subst P (let same : new ≡ x = cc in same) (one refl)
   found P false new old x one all is = all is
 
   left_over : (P : X → Type 0) (b : Bool) (old : Option X) (x : X) → (old ≡ Some x → P x) → cond b None old ≡ Some x → P x
   left_over P true old x all is = absurd (let differ : ⊥ = cc in differ)
   left_over P false old x all is = all is
 
-  Each-insert : (P : X → Type 0) (held : CidMap X) (c : List ℕ) (new : X) → Each P held → P new → Each P (finite_map.insert held c new)
-  Each-insert P held c new each one q x is = found P (same_cid q c) new (finite_map.get held q) x one (each q x) (sym (finite_map.get-insert nat_list_cmp_total held c new q) ∙ is)
+  Each-insert : (P : List ℕ → X → Type 0) (held : CidMap X) (c : List ℕ) (new : X) → Each P held → P c new → Each P (finite_map.insert held c new)
+  Each-insert P held c new each one q x is =
+      found (P q) (same_cid q c) new (finite_map.get held q) x (λ same. subst (λ (k : List ℕ). P k new) (sym (equal_cids q c same)) one) (each q x) (sym (finite_map.get-insert nat_list_cmp_total held c new q) ∙ is)
 
-  Each-remove : (P : X → Type 0) (held : CidMap X) (c : List ℕ) → Each P held → Each P (finite_map.remove held c)
-  Each-remove P held c each q x is = left_over P (same_cid q c) (finite_map.get held q) x (each q x) (sym (finite_map.get-remove nat_list_cmp_total held c q) ∙ is)
+  Each-remove : (P : List ℕ → X → Type 0) (held : CidMap X) (c : List ℕ) → Each P held → Each P (finite_map.remove held c)
+  Each-remove P held c each q x is = left_over (P q) (same_cid q c) (finite_map.get held q) x (each q x) (sym (finite_map.get-remove nat_list_cmp_total held c q) ∙ is)
 
-  pub Each-with : (P : X → Type 0) (held : CidMap X) (ps : List (List ℕ × X)) → Each P held → All (λ p. P p.1) ps → Each P (with_pairs held ps)
+  pub Each-with : (P : List ℕ → X → Type 0) (held : CidMap X) (ps : List (List ℕ × X)) → Each P held → All (λ p. P p.0 p.1) ps → Each P (with_pairs held ps)
   Each-with P held [] each all = each
-  Each-with P held (p ∷ ps) each all = Each-with P (finite_map.insert held p.0 p.1) ps (Each-insert P held p.0 p.1 each (All-head (λ q. P q.1) p ps all)) (All-tail (λ q. P q.1) p ps all)
+  Each-with P held (p ∷ ps) each all = Each-with P (finite_map.insert held p.0 p.1) ps (Each-insert P held p.0 p.1 each (All-head (λ q. P q.0 q.1) p ps all)) (All-tail (λ q. P q.0 q.1) p ps all)
 
-  pub Each-without : (P : X → Type 0) (held : CidMap X) (cs : List (List ℕ)) → Each P held → Each P (without_cids held cs)
+  pub Each-without : (P : List ℕ → X → Type 0) (held : CidMap X) (cs : List (List ℕ)) → Each P held → Each P (without_cids held cs)
   Each-without P held [] each = each
   Each-without P held (c ∷ cs) each = Each-without P (finite_map.remove held c) cs (Each-remove P held c each)
 

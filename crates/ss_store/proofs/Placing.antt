@@ -10,11 +10,11 @@ use Rattle.std.proofs.lemmas.List.Elements.{All-head, All-tail, All-cons, All-ni
 use Rattle.std.proofs.lemmas.Option.{slice_get_within, get_or_from_slice_get}
 use Rattle.ss_records.specs.declared.record.Record.TheVariants.{Put}
 use Rattle.ss_records.specs.declared.places.BlockPlace.{BlockPlace}
-use Rattle.ss_records.specs.Record.{block, number, spelling}
+use Rattle.ss_records.specs.Record.{block, number, spelling, BlockFits}
 use Rattle.ss_records.specs.Places.{places}
 use Rattle.ss_records.proofs.Frames.{flat_map_next}
 use Rattle.ss_store.specs.declared.place.Place.{Place}
-use Rattle.ss_store.specs.Places.{CidMap, with_pairs, without_cids, placed}
+use Rattle.ss_store.specs.Places.{CidMap, with_pairs, without_cids, placed, LiesBefore}
 use Rattle.ss_store.proofs.Pairs.{with_pairs-push, without_cids-push, without_with}
 
 length-block : (b : List ℕ × List ℕ) → length (block b) ≡ length b.0 + 4 + length b.1
@@ -96,12 +96,9 @@ undone-all held file body n blocks all is =
     let whole : take n blocks ≡ blocks = take_all n blocks (omega (arith, is)) in
     ap (λ (l : List (List ℕ × List ℕ)). without_cids (with_pairs held (placed_all file body l)) (map (λ p. p.0) (take n blocks))) (sym whole) ∙ undone held file body n blocks all
 
--- a place in this file before an end
-abbrev pub LiesBefore : ℕ → ℕ → Place → Type 0
-LiesBefore file end p = (p.file ≡ file) × (p.at + p.len ≤ end)
-
-pub placed-before : (file body at end : ℕ) (bs : List (List ℕ × List ℕ)) → body + at + length (flat_map block bs) ≤ end → All (λ p. LiesBefore file end p.1) (map (placed file body) (places at bs))
-placed-before file body at end [] fits = All-nil (λ p. LiesBefore file end p.1)
-placed-before file body at end (b ∷ bs) fits =
+-- blocks that a record may hold lie where their record does
+pub placed-before : (file body at end : ℕ) (bs : List (List ℕ × List ℕ)) → body + at + length (flat_map block bs) ≤ end → All BlockFits bs → All (λ p. LiesBefore file end p.0 p.1) (map (placed file body) (places at bs))
+placed-before file body at end [] within fit = All-nil (λ p. LiesBefore file end p.0 p.1)
+placed-before file body at end (b ∷ bs) within fit =
     let size = length-append (block b) (flat_map block bs) in
-    All-cons (λ p. LiesBefore file end p.1) _ _ (refl, omega (arith, fits, size, length-block b)) (placed-before file body (at + length (block b)) end bs (omega (arith, fits, size)))
+    All-cons (λ p. LiesBefore file end p.0 p.1) _ _ (refl, omega (arith, within, size, length-block b), (All-head BlockFits b bs fit).1) (placed-before file body (at + length (block b)) end bs (omega (arith, within, size)) (All-tail BlockFits b bs fit))

@@ -1,5 +1,5 @@
 -- Where the blocks of a Put lie in a file, whose number is given first; and a map from CIDs: its keys in order, and how it changes.
-use Rattle.std.specs.{Prelude.{ℕ, ◌+◌, ◌-◌, ◌^◌, min, Bool, true, false, List, [], ◌∷◌, Result, Ok, Err, Option, None, Some, filter, slice_get, refl}, Ordering.{nat_cmp, is_lt}, Cmp.Lexicographic.slice_cmp, Coded.{Coded, code_by, coded×, coded_ℕ, coded_list}}
+use Rattle.std.specs.{Prelude.{◌≡◌, ℕ, ◌+◌, ◌-◌, ◌^◌, ◌≤◌, min, Bool, true, false, List, [], ◌∷◌, length, Result, Ok, Err, Option, None, Some, filter, slice_get, refl}, Ordering.{nat_cmp, is_lt}, Cmp.Lexicographic.slice_cmp, Coded.{Coded, code_by, coded×, coded_ℕ, coded_list}}
 use Rattle.ss_records.specs.{declared.fault.RecordFault.RecordFault, declared.places.BlockPlace.BlockPlace}
 use Rattle.ss_store.specs.declared.place.Place.{Place}
 use Rattle.std.specs.FinMap as finite_map
@@ -8,6 +8,10 @@ pub use Rattle.ss_cid.specs.Maps.{CidMap}
 -- the place of a block in the file, where its record's body begins at `body`
 abbrev pub placed : ℕ → ℕ → BlockPlace → List ℕ × Place
 placed file body b = (b.cid, record { file = file; at = body + b.at; len = b.len })
+
+-- The block of a CID lies in this file, ends at this offset or before, and has with its CID no more bytes than a record allows.
+abbrev pub LiesBefore : ℕ → ℕ → List ℕ → Place → Type 0
+LiesBefore file end cid p = (p.file ≡ file) × (p.at + p.len ≤ end) × (length cid + p.len ≤ 8388608)
 
 -- a fault is among what was read of a Put's places
 abbrev pub has_fault : List (Result BlockPlace RecordFault) → Bool

@@ -7,7 +7,7 @@ use std::error::Error;
 use std::fmt;
 
 /// Why a call of a store failed.
-#[derive(Clone, Copy, Debug, PartialEq, Eq, Hash)]
+#[derive(Clone, Copy, Debug, PartialEq, Eq)]
 pub enum StoreFault {
     /// Out of memory.
     NoMemory,

@@ -5,8 +5,9 @@
 //! see an index as a finite map; how it changes with the blocks of a put and with dropped CIDs, and where the blocks of
 //! a put lie in a file, is in `specs/Places.antt`.
 //!
-//! The one contract is that of [`append_record`] (`specs/Append.antt`): a log that was sure has its records, or these
-//! and one more, in each crash image since, whatever the answer, and exactly the longer list after `Ok`.
+//! The one contract is that of [`append_record`] (`specs/Append.antt`): a log in doubt is settled first. Whatever the answer,
+//! each crash image since has the log's records, or these and one more, or the list that was in doubt. After `Ok` each has
+//! exactly the longer list.
 //!
 //! [`StoreFault`] is what every call of a store fails with. It names the file, which the faults of a log do not.
 #![tactic(auto)]

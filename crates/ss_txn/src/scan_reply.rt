@@ -1,7 +1,7 @@
 //! The answer of a scan.
 
 /// What reading one grey row answers.
-#[derive(Clone, Copy, Debug, PartialEq, Eq, Hash)]
+#[derive(Clone, Copy, Debug, PartialEq, Eq)]
 pub enum ScanReply {
     /// A row was read and is black.
     Scanned,

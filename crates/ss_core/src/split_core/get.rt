@@ -1,6 +1,6 @@
 //! Gets.
 
-ghost use Rattle.std.specs.Prelude.{◌≡◌, ℕ, List, Some, Option, IsTrue, MatchResult, length, true, false};
+ghost use Rattle.std.specs.Prelude.{◌≡◌, ℕ, List, Some, IsTrue, MatchResult, length, true, false};
 ghost use Rattle.ss_model.specs.declared.call.GetReply.TheVariants as get;
 
 use super::SplitCore;

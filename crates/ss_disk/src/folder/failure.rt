@@ -1,7 +1,7 @@
 use std::{fmt, io};
 
 /// What a folder disk asked the system for.
-#[derive(Clone, Copy, Debug, PartialEq, Eq, Hash)]
+#[derive(Clone, Copy, Debug, PartialEq, Eq)]
 pub enum FolderCall {
     /// To open the folder, or to open or make a file.
     Open,

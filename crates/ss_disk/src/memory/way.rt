@@ -2,7 +2,7 @@ ghost use Rattle.std.specs.Prelude.{◌≡◌};
 ghost use Rattle.ss_disk.specs.declared.memory.way.Way.TheVariants as Way;
 
 /// Which way a write goes that failed, or that a crash found not synced.
-#[derive(Clone, Copy, Debug, PartialEq, Eq)]
+#[derive(Clone, Copy, PartialEq, Eq)]
 pub(super) enum Way {
     /// It leaves nothing.
     Absent,

@@ -1,4 +1,4 @@
-ghost use Rattle.std.specs.Prelude.{◌≡◌, ◌^◌, ◌<◌, ℕ, List, IsTrue, length, Err, Ok, None, Some, IfOk, IfSome, OnOk, option_map, is_some};
+ghost use Rattle.std.specs.Prelude.{◌≡◌, ◌+◌, ◌^◌, ◌<◌, ◌≤◌, ℕ, List, IsTrue, length, Err, Ok, None, Some, IfOk, IfSome, OnOk, option_map, is_some};
 ghost use Rattle.std.specs.FinMap as finite_map;
 ghost use Rattle.ss_records.specs.declared.record.Record.{Record};
 ghost use Rattle.ss_hot.specs.Half.{hot_blocks};
@@ -45,6 +45,7 @@ impl HotStore {
     pub fn place(&self, cid: &Cid) -> Option<Place>
         ensures value { result ≡ finite_map.get self.now.places cid.now }
         ensures within { IfSome result (LiesIn self.now.log) }
+        ensures short { IfSome result (λ place. length cid.now + place.len ≤ 8388608) }
     {
         self.index.get(cid)
     }
@@ -77,9 +78,10 @@ impl HotStore {
         self.index.get(cid).is_some()
     }
 
-    /// How many bytes a hot block has.
+    /// How many bytes a hot block has. With its CID it has no more than a record allows.
     pub fn size(&self, cid: &Cid) -> Option<u32>
         ensures value { result ≡ option_map (λ place. place.len) (finite_map.get self.now.places cid.now) }
+        ensures short { IfSome result (λ len. length cid.now + len ≤ 8388608) }
         ensures block { (records : List Record) → Tells self.now records → result ≡ option_map (λ block. length block) (finite_map.get (hot_blocks records) cid.now) }
     {
         let place = self.place(cid)?;

@@ -1,12 +1,7 @@
-ghost use Rattle.std.specs.Prelude.{◌≡◌, ◌+◌, ◌<◌, ◌≤◌, ◌^◌, List, IsTrue, false, length, Err, IsOk, OnOk, OnErr};
-ghost use Rattle.ss_device.specs.Calls.{Touches, Leaves};
-ghost use Rattle.ss_gatelog.specs.GateLog.{CountsFault, HasEither};
+ghost use Rattle.std.specs.Prelude.{◌<◌, ◌≤◌, ◌^◌, List, IsTrue, length};
 ghost use Rattle.ss_records.specs.declared.record.Record.{Record};
 ghost use Rattle.ss_records.specs.declared.record.Record.TheVariants as record_kind;
 ghost use Rattle.ss_records.specs.Record.{spelling, Fits};
-ghost use Rattle.ss_store.specs.Append.{bodies};
-ghost use Rattle.ss_store.specs.declared.fault.StoreFault.{StoreFault};
-ghost use Rattle.ss_store.specs.declared.fault.StoreFault.TheVariants as fault;
 
 use super::HotStore;
 use ss_cid::{Cids, Parcel};
@@ -17,9 +12,9 @@ use ss_store::{StoreFault, append_record};
 use std::alloc::Global;
 
 impl HotStore {
-    ghost use Rattle.ss_hot.specs.Store.{Keeps, IsKnown, SameButDoubt, AreNotHot, KeepsWritten, Writes};
+    ghost use Rattle.ss_hot.specs.Store.{Keeps, IsKnown, AreNotHot, Settles, StillKeeps, KeepsWritten, Writes};
 
-    /// Puts blocks, by one record.
+    /// Puts blocks, by one record. A log in doubt is settled first, after all memory is taken.
     ///
     /// First `NoMemory`, then `LogFull`; both leave all as it was. After `DiskFault` the blocks are not hot, and the log may
     /// be in doubt.
@@ -29,15 +24,14 @@ impl HotStore {
         disk: &mut D,
         parcel: &Parcel,
     ) -> Result<(), StoreFault>
-        requires sure { self.old.log.unsure ≡ false }
         requires known { IsKnown D.Disk disk.old self.old }
         requires blocks { Fits (record_kind.Put parcel.now) }
         requires fits { length (spelling (record_kind.Put parcel.now)) ≤ 15728640 }
         requires new { AreNotHot self.old parcel.now }
-        ensures told { (records : List Record) → IsTrue D.told → Keeps D.Disk disk.old self.old records records → KeepsWritten D.Disk disk.old disk.new self.old self.new records (record_kind.Put parcel.now) result }
+        ensures told { (records others : List Record) → IsTrue D.told → Keeps D.Disk disk.old self.old records others → KeepsWritten D.Disk disk.old disk.new self.old self.new records others (record_kind.Put parcel.now) result }
         ensures written { Writes D.Disk disk.old disk.new self.old self.new (record_kind.Put parcel.now) result }
     {
-        // What it calls matters: by a clause of `len` each CID of the parcel is one.
+        // `len` ensures that each CID of the parcel is well formed.
         prove!(parcel.len() <= 4096);
         let body = self.log.end() + HEAD;
         let mut frame = encode_put(alloc, parcel)?;
@@ -59,13 +53,12 @@ impl HotStore {
         disk: &mut D,
         cids: &Cids,
     ) -> Result<(), StoreFault>
-        requires sure { self.old.log.unsure ≡ false }
         requires known { IsKnown D.Disk disk.old self.old }
         requires cids { Fits (record_kind.Dropped cids.now) }
-        ensures told { (records : List Record) → IsTrue D.told → Keeps D.Disk disk.old self.old records records → KeepsWritten D.Disk disk.old disk.new self.old self.new records (record_kind.Dropped cids.now) result }
+        ensures told { (records others : List Record) → IsTrue D.told → Keeps D.Disk disk.old self.old records others → KeepsWritten D.Disk disk.old disk.new self.old self.new records others (record_kind.Dropped cids.now) result }
         ensures written { Writes D.Disk disk.old disk.new self.old self.new (record_kind.Dropped cids.now) result }
     {
-        // What they call matters: the clauses of `end` bound the log, and by one of `len` each of the CIDs is one.
+        // `end` ensures that the log is within bounds, and `len` that each CID is well formed.
         prove!(self.log.end() < self.config.limit);
         prove!(cids.len() <= 4096);
         let mut frame = encode_dropped(alloc, cids)?;
@@ -82,13 +75,12 @@ impl HotStore {
         height: u64,
         cids: &Cids,
     ) -> Result<(), StoreFault>
-        requires sure { self.old.log.unsure ≡ false }
         requires known { IsKnown D.Disk disk.old self.old }
         requires head { Fits (record_kind.Head height cids.now) }
-        ensures told { (records : List Record) → IsTrue D.told → Keeps D.Disk disk.old self.old records records → KeepsWritten D.Disk disk.old disk.new self.old self.new records (record_kind.Head height cids.now) result }
+        ensures told { (records others : List Record) → IsTrue D.told → Keeps D.Disk disk.old self.old records others → KeepsWritten D.Disk disk.old disk.new self.old self.new records others (record_kind.Head height cids.now) result }
         ensures written { Writes D.Disk disk.old disk.new self.old self.new (record_kind.Head height cids.now) result }
     {
-        // For the clauses of `end` and `len`, as in `drop_batch`.
+        // `end` ensures that the log is within bounds, and `len` that each CID is well formed.
         prove!(self.log.end() < self.config.limit);
         prove!(cids.len() <= 64);
         let mut frame = encode_head(alloc, height, cids)?;
@@ -106,13 +98,12 @@ impl HotStore {
         base: u64,
         ended: u64,
     ) -> Result<(), StoreFault>
-        requires sure { self.old.log.unsure ≡ false }
         requires known { IsKnown D.Disk disk.old self.old }
         requires base { base < 2 ^ 63 }
-        ensures told { (records : List Record) → IsTrue D.told → Keeps D.Disk disk.old self.old records records → KeepsWritten D.Disk disk.old disk.new self.old self.new records (record_kind.Base base ended) result }
+        ensures told { (records others : List Record) → IsTrue D.told → Keeps D.Disk disk.old self.old records others → KeepsWritten D.Disk disk.old disk.new self.old self.new records others (record_kind.Base base ended) result }
         ensures written { Writes D.Disk disk.old disk.new self.old self.new (record_kind.Base base ended) result }
     {
-        // For the clauses of `end`, as in `drop_batch`.
+        // `end` ensures that the log is within bounds.
         prove!(self.log.end() < self.config.limit);
         let mut frame = encode(alloc, &Record::Base { base, ended })?;
         append_record(&mut self.log, disk, &mut frame)?;
@@ -120,18 +111,11 @@ impl HotStore {
         Ok(())
     }
 
-    /// Makes an unsure log sure: the record that was in doubt does not count. `DiskFault` leaves it unsure.
+    /// Settles a log in doubt: the record that was in doubt does not count. `DiskFault` leaves it in doubt.
     pub fn settle<D: Disk>(&mut self, disk: &mut D) -> Result<(), StoreFault>
         requires { IsKnown D.Disk disk.old self.old }
-        ensures sure { self.old.log.unsure ≡ false → IsOk result × (self.new ≡ self.old) × (disk.new ≡ disk.old) }
-        ensures settled { OnOk result (self.new.log.unsure ≡ false) }
-        ensures same { SameButDoubt self.old self.new }
-        ensures err { OnErr result (self.new ≡ self.old) }
-        ensures kept { (records others : List Record) → IsTrue D.told → Keeps D.Disk disk.old self.old records others → Keeps D.Disk disk.new self.new records others }
-        ensures stops { (records others : List Record) → IsTrue D.told → Keeps D.Disk disk.old self.old records others → Leaves D.Disk self.old.log.file (HasEither self.old.settings.limit (bodies records) (bodies others)) disk.old disk.new }
-        ensures errors { (e : StoreFault) → result ≡ Err e → e ≡ fault.DiskFault }
-        ensures counts { CountsFault fault.DiskFault (D.faults disk.old) (D.faults disk.new) result }
-        ensures touches { Touches D.Disk self.old.log.file disk.old disk.new }
+        ensures told { (records others : List Record) → IsTrue D.told → Keeps D.Disk disk.old self.old records others → StillKeeps D.Disk disk.old disk.new self.old self.new records others }
+        ensures settled { Settles D.Disk disk.old disk.new self.old self.new result }
     {
         match self.log.settle(disk) {
             Ok(()) => Ok(()),

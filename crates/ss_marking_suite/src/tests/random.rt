@@ -1,7 +1,7 @@
 ghost use Rattle.std.specs.Prelude.{◌<◌};
 
 /// Numbers from a seed, by SplitMix64.
-#[derive(Debug, Drop)]
+#[derive(Drop)]
 pub(crate) struct Random {
     state: u64,
 }

@@ -13,7 +13,7 @@ use std::collections::BTreeMap;
 use std::test::Fail;
 
 /// Blocks in memory, which are looked up in an ordered map.
-#[derive(Debug, Drop)]
+#[derive(Drop)]
 pub(crate) struct Stored {
     pub blocks: BTreeMap<Cid, Bytes>,
 }

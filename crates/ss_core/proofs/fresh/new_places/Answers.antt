@@ -1,4 +1,4 @@
-use Rattle.std.proofs.Common.{◌≡◌, ℕ, ◌<◌, List, [], length, get_or, Some, true, false, refl, ◌∙◌, arith}
+use Rattle.std.proofs.Common.{◌≡◌, ℕ, ◌<◌, List, [], length, get_or, Some, true, false, refl, arith}
 use Rattle.std.specs.Prelude.{slice_get}
 use Rattle.std.specs.Ordering.{nat_cmp}
 use Rattle.std.specs.Cmp.Lexicographic.{slice_cmp}
@@ -7,8 +7,9 @@ use Rattle.std.proofs.lemmas.List.Elements.{All-nil, All-push}
 use Rattle.std.proofs.lemmas.Option.{slice_get_within, slice_get-get_or}
 use Rattle.ss_model.specs.State.{CidSet}
 use Rattle.ss_model.specs.Lawful.{is_left_out}
-use Rattle.ss_core.specs.Replies.{AreNoted}
-use Rattle.ss_core.proofs.NewPairs.{none_walked, told, noted_is, was_there, old_walked, new_walked, all_walked}
+use Rattle.ss_core.specs.declared.fresh.Seen.{Seen}
+use Rattle.ss_core.specs.Seen.{AreSeen, seen_in}
+use Rattle.ss_core.proofs.NewPairs.{none_walked, told, out_at, was_there, old_walked, new_walked, all_walked}
 use Rattle.ss_core.proofs.fresh.new_places.Goals as goal
 use Rattle.ss_core.proofs.fresh.new_places.Goals.{then-branch+in_ok-push, else-branch}
 
@@ -18,13 +19,13 @@ loop-i-init c = record {
   walked = λ hot noted. rw c.new-places.ensures.items (none_walked hot c.args.parcel.now c.new-met.result c.new-met.ensures.empty);
 }
 
-pub loop-i-preserved-then-left_out-i : goal.loop-i-preserved-then-left_out-i
-loop-i-preserved-then-left_out-i c = record {
+pub loop-i-preserved-then-not-is_absent : goal.loop-i-preserved-then-not-is_absent
+loop-i-preserved-then-not-is_absent c = record {
   within = c.loop-i.invariant.within;
   walked = λ hot noted.
       let p : List ℕ × List ℕ = get_or c.args.parcel.now c.loop-i.i ([], []) in
       let at : slice_get c.args.parcel.now c.loop-i.i ≡ Some p = slice_get-get_or c.args.parcel.now c.loop-i.i ([], []) (omega (arith, c.loop-i-test.true, c.len-i-end.ensures.value)) in
-      let out = noted_is (is_left_out hot) c.args.parcel.now c.args.left_out.now c.loop-i.i p false noted at ∙ c.if-left_out-i.true in
+      let out = out_at hot c.args.parcel.now c.args.seen.now c.loop-i.i p Seen.Absent false noted at c.if-not-is_absent.ensures in
       old_walked hot c.args.parcel.now c.loop-i.met c.loop-i.met c.loop-i.places.items c.loop-i.i p at (told hot c.loop-i.met p.0 true _ out refl) refl (c.loop-i.invariant.walked hot noted);
 }
 
@@ -32,8 +33,8 @@ pub loop-i-preserved : goal.loop-i-preserved
 loop-i-preserved c =
     let p : List ℕ × List ℕ = (c.at-cid.result.0, c.at-cid.result.1.now) in
     let there = was_there (contains (slice_cmp nat_cmp) c.loop-i.met p.0) c.in_ok-insert.field-0 c.in_ok-insert.ensures.added in
-    let kept : (hot : CidSet) → AreNoted (is_left_out hot) c.args.parcel.now c.args.left_out.now → is_left_out hot p.0 ≡ false =
-    λ hot noted. noted_is (is_left_out hot) c.args.parcel.now c.args.left_out.now c.loop-i.i p false noted c.at-cid.ensures ∙ c.if-left_out-i.false in
+    let kept : (hot : CidSet) → AreSeen (seen_in hot) c.args.parcel.now c.args.seen.now → is_left_out hot p.0 ≡ false =
+    λ hot noted. out_at hot c.args.parcel.now c.args.seen.now c.loop-i.i p Seen.Absent true noted c.at-cid.ensures c.if-not-is_absent.ensures in
     elim c.if-branch.branch [
       | then-branch+in_ok-push w ↦
           let absent = rw w.if-branch.true at there in

@@ -1,5 +1,9 @@
-use Rattle.std.proofs.Common.{inr, ◌∙◌, arith}
+use Rattle.std.proofs.Common.{inr, sym, subst, ◌∙◌, arith}
 use Rattle.std.proofs.lemmas.Result.{err_from_is_err_and}
+use Rattle.ss_hot.specs.Store.{Hot}
+use Rattle.ss_core.specs.declared.found.Found.{Found}
+use Rattle.ss_core.specs.Found.{AreFound}
+use Rattle.ss_core.proofs.Finding.{found_at}
 use Rattle.ss_core.proofs.HeadSteps.{reads_then}
 use Rattle.ss_core.proofs.Judging.{first_fault, begins, goes_on, differs, ends}
 use Rattle.ss_core.proofs.Made.{counted_kept}
@@ -50,3 +54,6 @@ loop-i-preserved g c = record {
 
 pub returns-clause-judged : goal.returns-clause-judged
 returns-clause-judged g c = λ told s doubt stands known. ends s.kept c.args.cids.now known c.at-cid.result c.at-cid.ensures _ _ c.loop-i.i (c.loop-i.invariant.judged told s doubt stands known) (omega (arith, c.len-i-end.ensures.value))
+
+pub block-requires-in-loop-i : goal.block-requires-in-loop-i
+block-requires-in-loop-i g c = found_at c.loop-i.self.hot c.args.cids.now c.args.found.now c.loop-i.i c.at-cid-in-loop-i.result Found.InCid (subst (λ (h : Hot). AreFound h c.args.cids.now c.args.found.now) (sym c.loop-i.invariant.reads.hot) c.requires.found) c.at-cid-in-loop-i.ensures

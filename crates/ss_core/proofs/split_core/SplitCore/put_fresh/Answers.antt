@@ -1,21 +1,15 @@
-use Rattle.std.proofs.Common.{◌≡◌, ℕ, List, length, refl, sym, ap, ◌∙◌, subst, Err, arith}
-use Rattle.ss_device.specs.Calls.{LeavesFiles}
+use Rattle.std.proofs.Common.{ℕ, List, length, refl, ap, ◌∙◌, Err, arith}
 use Rattle.ss_records.specs.declared.record.Config.{Config as Settings}
-use Rattle.ss_hot.specs.Store.{Hot, SameButDoubt}
+use Rattle.ss_gatelog.specs.GateLog.{Log}
+use Rattle.ss_hot.specs.Store.{Hot}
 use Rattle.ss_model.specs.Lawful.{pairs_need}
 use Rattle.ss_model.specs.declared.call.Call.TheVariants as call
 use Rattle.ss_model.specs.declared.call.Answer.TheVariants as answer
-use Rattle.ss_model.specs.declared.call.PutReply.{PutReply}
 use Rattle.ss_model.specs.declared.call.PutReply.TheVariants as put
 use Rattle.ss_model.proofs.Need.{record_takes}
-use Rattle.ss_core.specs.Replies.{Puts}
-use Rattle.ss_core.specs.Replies.{put_fault}
-use Rattle.ss_core.specs.StandsFor.{no_doubt, HasEitherState}
-use Rattle.ss_core.specs.LogFiles.{log_files}
-use Rattle.ss_core.proofs.Idle.{stands_still}
-use Rattle.ss_core.proofs.LogFiles.{touches_hot, touches_then}
-use Rattle.ss_core.proofs.Made.{idle_makes, put_stored, put_failed, put_wanting, counted_kept, rose_on}
-use Rattle.ss_core.proofs.PutSteps.{new_are, table_is_full, log_is_full, not_settled, no_more_memory, is_stored, is_doubted, spelled_short, need_short, has_room}
+use Rattle.ss_core.proofs.LogFiles.{touches_hot}
+use Rattle.ss_core.proofs.Made.{idle_makes, put_stored, put_failed, put_wanting, counted_kept}
+use Rattle.ss_core.proofs.PutSteps.{new_are, table_is_full, log_is_full, no_memory, is_stored, is_doubted, spelled_short, has_room}
 use Rattle.ss_core.proofs.Stops.{is_stop, puts_fault, unless_disk}
 use Rattle.ss_core.proofs.split_core.SplitCore.put_fresh.Goals as goal
 
@@ -40,83 +34,54 @@ returns-then-need-room g c = λ view pairs new passes. record {
   views = refl;
 }
 
-pub returns-in-Err : goal.returns-in-Err
-returns-in-Err g c = λ view pairs new passes.
-    let fault : c.in-Err.fault ≡ _ = c.in-Err.ensures.errors c.in-Err.fault refl in
-    let reply : c.put_fault.result ≡ put.DiskFault = c.put_fault.ensures ∙ ap put_fault fault in
-    subst (λ (r : PutReply). Puts c.args.self.now c.settle.new.self view pairs r) (sym reply) (record {
-      told = λ told s doubt stands.
-          let is = new_are g.D.Disk c.args.self.now s doubt stands pairs ∙ new in
-          let settled = c.in-Err.ensures.told told s doubt stands in
-          not_settled g.D.Disk s doubt view pairs c.args.fresh.now (passes s doubt stands) is c.args.self.now c.settle.new.self stands c.settle.ensures.same settled.stops
-          (omega (arith, c.if-rows-from.false, c.from.ensures, ap (λ (c : Settings). c.rows) c.config.ensures, c.kept_count.ensures.count, c.len.ensures.value))
-          (need_short c.args.fresh.now _ c.requires.blocks.0.0 (omega (arith, c.if-need-room.false, c.requires.body, c.room-room.ensures.room))) settled.after;
-      made = put_failed g.D.Disk c.args.self.now c.settle.new.self (ap (λ (h : Hot). h.settings) c.settle.ensures.same) c.settle.ensures.touches (omega (arith, ap (λ (h : Hot). h.log.end) c.settle.ensures.same)) view pairs (c.in-Err.ensures.counts.rose (ap Err fault));
-      due = tt;
-      views = c.settle.ensures.views;
-    })
-
 pub put_batch-requires-clause-fits : goal.put_batch-requires-clause-fits
 put_batch-requires-clause-fits g c = spelled_short c.args.fresh.now 15728640 c.requires.short
 
-pub put_fault-requires-in-Err-put_batch : goal.put_fault-requires-in-Err-put_batch
-put_fault-requires-in-Err-put_batch g c =
-    let e = c.in-Err-put_batch in
+pub put_fault-requires : goal.put_fault-requires
+put_fault-requires g c =
+    let e = c.in-Err in
     is_stop e.fault
-    (λ file need room is. let full = e.ensures.written.full file need room (ap Err is) in
-    has_room c.args.self.now.hot c.settle.new.self.hot c.args.fresh.now need room c.settle.ensures.same (omega (arith, c.if-need-room.false, c.requires.body, c.room-room.ensures.room)) full.1 full.2 full.3)
-    (λ file at is. e.ensures.written.not_damaged file at (ap Err is))
+    (λ file need room is. let full = e.ensures.written.appends.full file need room (ap Err is) in
+    has_room c.args.self.now.hot c.args.fresh.now room (omega (arith, c.if-need-room.false, c.requires.body, c.room-room.ensures.room)) full.2 full.3)
+    (λ file at is. e.ensures.written.appends.not_damaged file at (ap Err is))
 
 pub returns-in-Ok : goal.returns-in-Ok
-returns-in-Ok g c = λ view pairs new passes.
-    record {
-      told = λ told s doubt stands.
-          let is = new_are g.D.Disk c.args.self.now s doubt stands pairs ∙ new in
-          let settled = c.in_default.ensures.told told s doubt stands in
-          is_stored g.D.Disk s doubt view pairs c.args.fresh.now (passes s doubt stands) is c.args.self.now c.settle.new.self _ stands c.requires.blocks c.len.ensures.cids
-          (omega (arith, c.if-rows-from.false, c.from.ensures, ap (λ (c : Settings). c.rows) c.config.ensures, c.kept_count.ensures.count, c.len.ensures.value))
-          (omega (arith, c.if-need-room.false, c.requires.body, c.room-room.ensures.room)) c.settle.ensures.same settled.stops settled.after
-          c.put_batch.ensures.written.settings refl (λ records keeps. (c.put_batch.ensures.told records told keeps).stops)
-          _ c.len-in-Ok.ensures.value c.in-Ok.ensures.written.end c.in-Ok.ensures.written.sure (λ records keeps. (c.in-Ok.ensures.told records told keeps).kept);
-      made = put_stored g.D.Disk c.args.self.now _ (c.put_batch.ensures.written.settings ∙ ap (λ (h : Hot). h.settings) c.settle.ensures.same)
-          (touches_then g.D.Disk _ c.settle.new.self.disk c.put_batch.new.disk c.settle.ensures.touches (touches_hot g.D.Disk _ c.settle.new.self.disk c.put_batch.new.disk c.settle.new.self.file c.put_batch.ensures.written.touches))
-          (omega (arith, c.in-Ok.ensures.written.end, record_takes c.args.fresh.now, ap (λ (h : Hot). h.log.end) c.settle.ensures.same, c.if-need-room.false, c.requires.body, c.room-room.ensures.room)) view _ pairs
-          (counted_kept _ _ _ c.in-Ok.ensures.written.counts.kept ∙ counted_kept _ _ _ c.in_default.ensures.counts.kept) c.in-Ok.ensures.written.sure;
-      due = tt;
-      views = c.settle.ensures.views;
-    }
+returns-in-Ok g c = λ view pairs new passes. record {
+  told = λ told s doubt stands.
+      let is = new_are g.D.Disk c.args.self.now s doubt stands pairs ∙ new in
+      is_stored g.D.Disk s doubt view pairs c.args.fresh.now (passes s doubt stands) is c.args.self.now _ stands c.requires.blocks c.len.ensures.cids
+      (omega (arith, c.if-rows-from.false, c.from.ensures, ap (λ (c : Settings). c.rows) c.config.ensures, c.kept_count.ensures.count, c.len.ensures.value))
+      (omega (arith, c.if-need-room.false, c.requires.body, c.room-room.ensures.room)) c.put_batch.ensures.written.settings refl
+      _ c.len-in-Ok.ensures.value c.in-Ok.ensures.written.appends.ok (λ records others. c.in-Ok.ensures.told records others told);
+  made = put_stored g.D.Disk c.args.self.now _ c.put_batch.ensures.written.settings (touches_hot g.D.Disk _ _ _ c.args.self.now.file c.put_batch.ensures.written.appends.touches)
+      (omega (arith, ap (λ (l : Log). l.end) c.in-Ok.ensures.written.appends.ok, record_takes c.args.fresh.now, c.if-need-room.false, c.requires.body, c.room-room.ensures.room)) view _ pairs
+      (counted_kept _ _ _ c.in-Ok.ensures.written.appends.counts.kept) (ap (λ (l : Log). l.unsure) c.in-Ok.ensures.written.appends.ok);
+  due = tt;
+  views = refl;
+}
 
-pub returns-in-Err-put_batch : goal.returns-in-Err-put_batch
-returns-in-Err-put_batch g c = λ view pairs new passes.
-    let e = c.in-Err-put_batch in
-    let settings = c.put_batch.ensures.written.settings ∙ ap (λ (h : Hot). h.settings) c.settle.ensures.same in
-    let touches = touches_then g.D.Disk _ c.settle.new.self.disk c.put_batch.new.disk c.settle.ensures.touches (touches_hot g.D.Disk _ c.settle.new.self.disk c.put_batch.new.disk c.settle.new.self.file c.put_batch.ensures.written.touches) in
-    let kept = counted_kept _ _ _ c.in_default.ensures.counts.kept in
-    puts_fault e.fault c.put_fault-in-Err-put_batch.ensures
+pub returns-in-Err : goal.returns-in-Err
+returns-in-Err g c = λ view pairs new passes.
+    let e = c.in-Err in
+    let settings = c.put_batch.ensures.written.settings in
+    let touches = touches_hot g.D.Disk _ _ _ c.args.self.now.file c.put_batch.ensures.written.appends.touches in
+    puts_fault e.fault c.put_fault.ensures
     (is_stop e.fault
-    (λ file' need room is. let full = e.ensures.written.full file' need room (ap Err is) in
-    has_room c.args.self.now.hot c.settle.new.self.hot c.args.fresh.now need room c.settle.ensures.same (omega (arith, c.if-need-room.false, c.requires.body, c.room-room.ensures.room)) full.1 full.2 full.3)
-    (λ file' at is. e.ensures.written.not_damaged file' at (ap Err is)))
+    (λ file' need room is. let full = e.ensures.written.appends.full file' need room (ap Err is) in
+    has_room c.args.self.now.hot c.args.fresh.now room (omega (arith, c.if-need-room.false, c.requires.body, c.room-room.ensures.room)) full.2 full.3)
+    (λ file' at is. e.ensures.written.appends.not_damaged file' at (ap Err is)))
     (λ wanting. let same = unless_disk e.fault _ wanting (e.ensures.written.untouched e.fault refl) in record {
-      told = λ told s doubt stands.
-          let is = new_are g.D.Disk c.args.self.now s doubt stands pairs ∙ new in
-          let settled = c.in_default.ensures.told told s doubt stands in
-          no_more_memory g.D.Disk s doubt view pairs c.args.fresh.now (passes s doubt stands) is c.args.self.now _ stands (subst (λ (h : Hot). SameButDoubt c.args.self.now.hot h) (sym same.0) c.settle.ensures.same)
-          (subst (λ d. LeavesFiles g.D.Disk log_files (HasEitherState s doubt) c.args.self.now.disk d) (sym same.1) settled.stops)
-          (stands_still g.D.Disk c.settle.new.self _ s no_doubt same.1 same.0 settled.after refl);
-      made = put_wanting g.D.Disk c.args.self.now _ settings touches (omega (arith, ap (λ (h : Hot). h.log.end) same.0, ap (λ (h : Hot). h.log.end) c.settle.ensures.same)) view pairs (ap g.D.Disk.faults same.1 ∙ kept) (λ sure. same.1 ∙ (c.settle.ensures.sure sure).2);
+      told = λ told s doubt stands. no_memory g.D.Disk s doubt view pairs c.args.fresh.now (passes s doubt stands) (new_are g.D.Disk c.args.self.now s doubt stands pairs ∙ new) c.args.self.now _ stands same.1 same.0 refl;
+      made = put_wanting g.D.Disk c.args.self.now _ settings touches (omega (arith, ap (λ (h : Hot). h.log.end) e.ensures.written.err)) view pairs same.1;
       due = tt;
-      views = c.settle.ensures.views;
+      views = refl;
     })
     (λ failed. record {
       told = λ told s doubt stands.
-          let is = new_are g.D.Disk c.args.self.now s doubt stands pairs ∙ new in
-          let settled = c.in_default.ensures.told told s doubt stands in
-          is_doubted g.D.Disk s doubt view pairs c.args.fresh.now (passes s doubt stands) is c.args.self.now c.settle.new.self _ stands c.requires.blocks c.len.ensures.cids
+          is_doubted g.D.Disk s doubt view pairs c.args.fresh.now (passes s doubt stands) (new_are g.D.Disk c.args.self.now s doubt stands pairs ∙ new) c.args.self.now _ stands c.requires.blocks c.len.ensures.cids
           (omega (arith, c.if-rows-from.false, c.from.ensures, ap (λ (c : Settings). c.rows) c.config.ensures, c.kept_count.ensures.count, c.len.ensures.value))
-          (omega (arith, c.if-need-room.false, c.requires.body, c.room-room.ensures.room)) c.settle.ensures.same settled.stops settled.after c.put_batch.ensures.written.settings refl (λ records keeps. (c.put_batch.ensures.told records told keeps).stops) e.ensures.written.err (λ records keeps. (e.ensures.told records told keeps).failed);
-      made = put_failed g.D.Disk c.args.self.now _ settings touches (omega (arith, ap (λ (h : Hot). h.log.end) e.ensures.written.err, ap (λ (h : Hot). h.log.end) c.settle.ensures.same)) view pairs
-          (rose_on (g.D.Disk.faults c.args.self.now.disk) (g.D.Disk.faults c.settle.new.self.disk) _ kept (e.ensures.written.counts.rose (ap Err failed)));
+          (omega (arith, c.if-need-room.false, c.requires.body, c.room-room.ensures.room)) settings refl e.fault e.ensures.written.err (λ records others. e.ensures.told records others told);
+      made = put_failed g.D.Disk c.args.self.now _ settings touches (omega (arith, ap (λ (h : Hot). h.log.end) e.ensures.written.err)) view pairs (e.ensures.written.appends.counts.rose (ap Err failed));
       due = tt;
-      views = c.settle.ensures.views;
+      views = refl;
     })

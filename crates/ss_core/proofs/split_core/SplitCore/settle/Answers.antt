@@ -4,8 +4,7 @@ use Rattle.ss_core.proofs.Settling.{settles}
 use Rattle.ss_core.proofs.split_core.SplitCore.settle.Goals as goal
 
 pub returns-clause-told : goal.returns-clause-told
-returns-clause-told g c = λ told s doubt stands.
-    settles g.D.Disk c.args.self.now _ s doubt c.settle.result c.settle.ensures.same refl c.settle.ensures.settled c.settle.ensures.err (λ records others. c.settle.ensures.kept records others told) (λ records others. c.settle.ensures.stops records others told) stands
+returns-clause-told g c = λ told s doubt stands. settles g.D.Disk c.args.self.now _ s doubt c.settle.result c.settle.ensures.settled refl (λ records others. c.settle.ensures.told records others told) stands
 
-pub returns-clause-touches : goal.returns-clause-touches
-returns-clause-touches g c = touches_hot g.D.Disk _ _ _ c.args.self.now.file c.settle.ensures.touches
+pub returns-clause-settled : goal.returns-clause-settled
+returns-clause-settled g c = record { hot = c.settle.ensures.settled; views = refl; touches = touches_hot g.D.Disk _ _ _ c.args.self.now.file c.settle.ensures.settled.log.touches }

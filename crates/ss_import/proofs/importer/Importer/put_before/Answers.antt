@@ -1,23 +1,25 @@
-use Rattle.std.proofs.Common.{◌≡◌, List, ◌∷◌, ◌++◌, take, Err, refl, sym, ap, ◌∙◌, subst}
+use Rattle.std.proofs.Common.{◌≡◌, ◌+◌, ◌-◌, ◌^◌, min, [], ◌∷◌, ◌++◌, take, Err, sym, ap, ◌∙◌, subst}
 use Rattle.std.specs.Prelude.{slice_index_or}
-use Rattle.std.proofs.lemmas.List.{take-map}
 use Rattle.std.proofs.lemmas.List.Elements.{All-take}
 use Rattle.ss_model.specs.Lawful.{IsSmall}
-use Rattle.ss_car.specs.Car.{Section}
 use Rattle.ss_core.specs.Replies.{IsDueTo}
 use Rattle.ss_import.specs.declared.fault.ImportFault.TheVariants as import
-use Rattle.ss_import.specs.Import.{pair_of, GoTogether, FaultCounts}
+use Rattle.ss_import.specs.Import.{GoTogether, put_of}
 use Rattle.ss_import.specs.Steps.{PutsEnded}
-use Rattle.ss_import.proofs.Fronts.{together_front, fits_front, front_of, offset_at, still_blamed, none_before}
-use Rattle.ss_import.proofs.Putting.{story_put, stored, ended, blocked}
-use Rattle.ss_import.proofs.Replies.{group_reply, stored_reply, refused_block, ending_reply, end_counts}
+use Rattle.ss_import.proofs.Fronts.{together_front, fits_front, offset_at, here_at, front_pairs, none_before}
+use Rattle.ss_import.proofs.Putting.{story_put, first_blocked, front_wanting, front_stored, front_ended}
+use Rattle.ss_import.proofs.Replies.{group_reply, stored_reply, refused_block, ending_reply, never_source}
 use Rattle.ss_import.proofs.importer.Importer.put_before.Goals as goal
 
 pub returns-then-i-eq0-clause-puts : goal.returns-then-i-eq0-clause-puts
-returns-then-i-eq0-clause-puts g c = λ was sections left p s holds here blames.
-    let f = front_of left c.args.i s here in
-    let first : left ≡ s ∷ f.0 = f.1 ∙ ap (λ n. take n left ++ s ∷ f.0) c.if-i-eq0.true in
-    blocked was c.args.self.now sections left p s f.0 c.args.fault c.index-offset.result.now first (c.index-offset.ensures ∙ ap (λ l. slice_index_or l c.args.i c.index-offset.result.now) holds.offsets ∙ offset_at left c.args.i c.index-offset.result.now s here) blames
+returns-then-i-eq0-clause-puts g c = λ was sections left p holds.
+    let r = p.is_refused in
+    let offset = c.index-offset.result.now in
+    first_blocked was c.args.self.now sections left c.args.i c.args.fault p offset c.if-i-eq0.true
+    (c.index-offset.ensures ∙ ap (λ l. slice_index_or l c.args.i offset) holds.offsets ∙ offset_at left c.args.i offset p.s (here_at left p.front p.s r.rest c.args.i r.parts p.at))
+
+pub returns-in_default-clause-puts : goal.returns-in_default-clause-puts
+returns-in_default-clause-puts g c = λ was sections left p holds. front_wanting was c.args.self.now sections left c.args.i c.args.fault p c.if-i-eq0.false
 
 pub stored-requires : goal.stored-requires
 stored-requires g c =
@@ -26,25 +28,33 @@ stored-requires g c =
     group_reply c.args.self.now.core c.put.new.self c.args.self.now.view (take c.args.i pairs) c.put.result c.requires.ready.view (together_front pairs c.args.i c.requires.ready.together) (All-take IsSmall c.args.i pairs c.requires.ready.small) due
 
 pub returns-in-Ok-stored-clause-puts : goal.returns-in-Ok-stored-clause-puts
-returns-in-Ok-stored-clause-puts g c = λ was sections left p s holds here blames.
-    let f = front_of left c.args.i s here in
-    let group : List Section = take c.args.i left in
-    let same = c.in-Ok.ensures ∙ ap (take c.args.i) holds.parcel ∙ take-map pair_of c.args.i left in
-    let story = story_put was c.args.self.now.core c.put.new.self c.args.self.now.view p.puts group c.in-Ok.parcel c.put.result same c.put.ensures.told c.put.ensures.made p.story in
-    let together = subst GoTogether (ap (take c.args.i) holds.parcel ∙ take-map pair_of c.args.i left) (together_front c.args.self.now.group.parcel c.args.i c.requires.ready.together) in
-    subst (λ imp. PutsEnded was imp sections (import.BadBlock c.args.fault c.index-offset.result.now)) (sym c.count.ensures)
-    (let q = stored was _ sections left p.puts p.are_puts group (s ∷ f.0) c.put.result c.in-Ok-stored.new c.args.self.now.new_blocks p.new_is (stored_reply c.put.result c.in-Ok-stored.new (sym c.stored.ensures ∙ c.in-Ok-stored.is)) f.1 together story refl in
-    blocked was _ sections (s ∷ f.0) q s f.0 c.args.fault c.index-offset.result.now refl (c.index-offset.ensures ∙ ap (λ l. slice_index_or l c.args.i c.index-offset.result.now) holds.offsets ∙ offset_at left c.args.i c.index-offset.result.now s here)
-    (still_blamed c.args.self.now.view p.puts q.puts s c.args.self.now.core c.args.self.now.group.parcel c.args.i c.args.fault c.if-i-eq0.false c.requires.due.1 blames))
+returns-in-Ok-stored-clause-puts g c = λ was sections left p holds.
+    let imp = c.args.self.now in
+    let i = c.args.i in
+    let r = p.is_refused in
+    let front_is = ap (take i) holds.parcel ∙ front_pairs left p.front p.s r.rest i r.parts p.at in
+    let before = p.puts ++ put_of imp.view left p.reply ∷ [] in
+    let story = story_put was imp.core c.put.new.self imp.view before p.front c.in-Ok.parcel c.put.result (c.in-Ok.ensures ∙ front_is) c.put.ensures.told c.put.ensures.made p.story in
+    let together = subst GoTogether front_is (together_front imp.group.parcel i c.requires.ready.together) in
+    let offset = c.index-offset.result.now in
+    let count = c.in-Ok-stored.new in
+    subst (λ imp. PutsEnded was imp sections (import.BadBlock c.args.fault offset)) (sym c.count.ensures)
+    (front_stored was imp sections left i c.args.fault p c.if-i-eq0.false together c.put.new.self (min (imp.new_blocks + count) (2 ^ 64 - 1)) c.put.result story count offset
+    (stored_reply c.put.result count (sym c.stored.ensures ∙ c.in-Ok-stored.is))
+    (c.index-offset.ensures ∙ ap (λ l. slice_index_or l i offset) holds.offsets ∙ offset_at left i offset p.s (here_at left p.front p.s r.rest i r.parts p.at)))
 
 pub returns-in-Err-Ends-clause-puts : goal.returns-in-Err-Ends-clause-puts
-returns-in-Err-Ends-clause-puts g c = λ was sections left p s holds here blames.
-    let f = front_of left c.args.i s here in
-    let group : List Section = take c.args.i left in
-    let same = c.in-Ok.ensures ∙ ap (take c.args.i) holds.parcel ∙ take-map pair_of c.args.i left in
-    let story = story_put was c.args.self.now.core c.put.new.self c.args.self.now.view p.puts group c.in-Ok.parcel c.put.result same c.put.ensures.told c.put.ensures.made p.story in
-    let together = subst GoTogether (ap (take c.args.i) holds.parcel ∙ take-map pair_of c.args.i left) (together_front c.args.self.now.group.parcel c.args.i c.requires.ready.together) in
-    subst (λ fault. PutsEnded {disk = g.D.Disk} was (record c.args.self.now { core = c.put.new.self }) sections fault) (sym c.in-Err-Ends.earlier-is) (ended was (record c.args.self.now { core = c.put.new.self }) sections left p.puts p.are_puts group (s ∷ f.0) c.put.result c.in-Err-Ends.earlier (ending_reply c.put.result c.in-Err-Ends.earlier (sym c.stored.ensures ∙ c.in-Err-Ends.is ∙ ap Err c.in-Err-Ends.field-0-is)) f.1 together story)
+returns-in-Err-Ends-clause-puts g c = λ was sections left p holds.
+    let imp = c.args.self.now in
+    let i = c.args.i in
+    let r = p.is_refused in
+    let front_is = ap (take i) holds.parcel ∙ front_pairs left p.front p.s r.rest i r.parts p.at in
+    let before = p.puts ++ put_of imp.view left p.reply ∷ [] in
+    let story = story_put was imp.core c.put.new.self imp.view before p.front c.in-Ok.parcel c.put.result (c.in-Ok.ensures ∙ front_is) c.put.ensures.told c.put.ensures.made p.story in
+    let together = subst GoTogether front_is (together_front imp.group.parcel i c.requires.ready.together) in
+    subst (λ fault. PutsEnded {disk = g.D.Disk} was (record imp { core = c.put.new.self }) sections fault) (sym c.in-Err-Ends.earlier-is)
+    (front_ended was imp sections left i c.args.fault p c.if-i-eq0.false together c.put.new.self imp.new_blocks c.put.result story c.in-Err-Ends.earlier
+    (ending_reply c.put.result c.in-Err-Ends.earlier (sym c.stored.ensures ∙ c.in-Err-Ends.is ∙ ap Err c.in-Err-Ends.field-0-is)))
 
 pub unreachable-requires : goal.unreachable-requires
 unreachable-requires g c =
@@ -55,6 +65,6 @@ unreachable-requires g c =
     let why = refused_block c.args.self.now.core c.put.new.self c.args.self.now.view (take c.args.i pairs) c.put.result c.in-Err-Block.field-0-0 c.in-Err-Block.field-0-1 (sym c.stored.ensures ∙ c.in-Err-Block.is ∙ ap Err c.in-Err-Block.field-0-is) able (fits_front c.args.self.now.core pairs c.args.i fits) due in
     none_before c.args.self.now.core pairs c.args.i c.args.fault c.if-i-eq0.false c.requires.due.0 c.requires.due.1 fits c.in-Err-Block.field-0-0 c.in-Err-Block.field-0-1 why.due
 
-pub returns-in-Err-Ends-clause-faults : goal.returns-in-Err-Ends-clause-faults
-returns-in-Err-Ends-clause-faults g c = λ before.
-    subst (FaultCounts before before) (sym c.in-Err-Ends.earlier-is) (end_counts before c.put.result c.in-Err-Ends.earlier (ending_reply c.put.result c.in-Err-Ends.earlier (sym c.stored.ensures ∙ c.in-Err-Ends.is ∙ ap Err c.in-Err-Ends.field-0-is)))
+pub returns-in-Err-Ends-clause-source : goal.returns-in-Err-Ends-clause-source
+returns-in-Err-Ends-clause-source g c =
+    subst (λ fault. fault ≡ import.ReadFault → ⊥) (sym c.in-Err-Ends.earlier-is) (never_source c.put.result c.in-Err-Ends.earlier (ending_reply c.put.result c.in-Err-Ends.earlier (sym c.stored.ensures ∙ c.in-Err-Ends.is ∙ ap Err c.in-Err-Ends.field-0-is)))

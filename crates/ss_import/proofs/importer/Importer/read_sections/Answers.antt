@@ -1,7 +1,7 @@
-use Rattle.std.proofs.Common.{◌≡◌, Ok, Err, ap, ◌∙◌, refl, subst, arith}
+use Rattle.std.proofs.Common.{◌≡◌, Ok, Err, ap, ◌∙◌, refl, arith}
 use Rattle.std.proofs.lemmas.Result.{err_from_is_err_and}
 use Rattle.ss_car.specs.Bodies.{input_faults}
-use Rattle.ss_import.specs.Import.{FaultCounts}
+use Rattle.ss_import.proofs.Counted.{quiet_ok}
 use Rattle.ss_import.proofs.Ends.{early}
 use Rattle.ss_import.proofs.importer.Importer.read_sections.Goals as goal
 
@@ -20,7 +20,7 @@ loop-preserved g c =
     record {
       between = new.between;
       reading = λ input was reading. rw c.if-branch.true at (new.step input was (old.reading input was reading));
-      faults = new.source.0 ∙ old.faults;
+      faults = quiet_ok (input_faults g.S.Source c.loop.reader) (input_faults g.S.Source c.step.new.reader) c.in_ok-step.field-0 new.source.0 ∙ old.faults;
       place = new.source.1 ∙ old.place;
     }
 
@@ -35,19 +35,7 @@ returns-in_err-step-clause-import g c input was reading =
     let is : c.from_residual.result ≡ Err c.in_err-step.field-0.0 = cc (fault.1, fault.2) in
     rw is (early c.args.head input was c.step.new.self c.in_err-step.field-0.0 (c.in_err-step.ensures.step input was (c.loop.invariant.reading input was reading)))
 
-pub returns-in_err-step-clause-source : goal.returns-in_err-step-clause-source
-returns-in_err-step-clause-source g c =
-    let fault = err_from_is_err_and c.from_residual.result c.from_residual.ensures.1 in
-    let is : c.from_residual.result ≡ Err c.in_err-step.field-0.0 = cc (fault.1, fault.2) in
-    let source = c.in_err-step.ensures.source in
-    rw is (subst (λ n. FaultCounts n (input_faults g.S.Source c.step.new.reader) c.in_err-step.field-0.0) c.loop.invariant.faults source.0, source.1 ∙ c.loop.invariant.place)
-
 pub returns-clause-import : goal.returns-clause-import
 returns-clause-import g c input was reading =
     let read = rw c.if-branch.false at (c.in_ok-step.ensures.step input was (c.loop.invariant.reading input was reading)) in
     c.finish.ensures.import input was (rw c.roots.ensures read)
-
-pub returns-clause-source : goal.returns-clause-source
-returns-clause-source g c =
-    let source = c.in_ok-step.ensures.source in
-    (rw (source.0, c.loop.invariant.faults) (c.finish.ensures.faults _), source.1 ∙ c.loop.invariant.place)

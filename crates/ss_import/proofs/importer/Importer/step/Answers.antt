@@ -10,24 +10,11 @@ returns-in_err-take-in-Ok-Some-clause-step g c input was r =
     let is : c.from_residual.result ≡ Err c.in_err-take-in-Ok-Some.field-0.0 = cc (fault.1, fault.2) in
     rw is (take_ended g.S.Source input was c.args.self.now c.take.new.self c.args.reader.now c.next.new.self r c.in-Ok-Some.cid c.in-Ok-Some.block found.0 found.1 c.taken-offset.result c.taken.result c.taken-offset.ensures c.taken.ensures c.in_err-take-in-Ok-Some.field-0.0 (c.in_err-take-in-Ok-Some.ensures.takes was r.sections r.left r.putting r.holds))
 
-pub returns-in_err-take-in-Ok-Some-clause-source :
-    goal.returns-in_err-take-in-Ok-Some-clause-source
-returns-in_err-take-in-Ok-Some-clause-source g c =
-    let fault = err_from_is_err_and c.from_residual.result c.from_residual.ensures.1 in
-    let is : c.from_residual.result ≡ Err c.in_err-take-in-Ok-Some.field-0.0 = cc (fault.1, fault.2) in
-    rw is (rw (c.in-Ok-Some.ensures.cause c.requires.fresh) (c.in_err-take-in-Ok-Some.ensures.continues _), c.next.ensures.place)
-
 pub returns-in_err-put-in-Ok-None-clause-step : goal.returns-in_err-put-in-Ok-None-clause-step
 returns-in_err-put-in-Ok-None-clause-step g c input was r =
     let fault = err_from_is_err_and c.from_residual-in_err-put-in-Ok-None.result c.from_residual-in_err-put-in-Ok-None.ensures.1 in
     let is : c.from_residual-in_err-put-in-Ok-None.result ≡ Err c.in_err-put-in-Ok-None.field-0.0 = cc (fault.1, fault.2) in
     rw is (last_ended g.S.Source input was c.args.self.now c.put.new.self c.args.reader.now c.next.new.self r c.in_err-put-in-Ok-None.field-0.0 (c.in_err-put-in-Ok-None.ensures.puts was r.sections r.left r.putting r.holds))
-
-pub returns-in_err-put-in-Ok-None-clause-source : goal.returns-in_err-put-in-Ok-None-clause-source
-returns-in_err-put-in-Ok-None-clause-source g c =
-    let fault = err_from_is_err_and c.from_residual-in_err-put-in-Ok-None.result c.from_residual-in_err-put-in-Ok-None.ensures.1 in
-    let is : c.from_residual-in_err-put-in-Ok-None.result ≡ Err c.in_err-put-in-Ok-None.field-0.0 = cc (fault.1, fault.2) in
-    rw is (rw (c.in-Ok-None.ensures.cause c.requires.fresh) (c.in_err-put-in-Ok-None.ensures.continues _), c.next.ensures.place)
 
 pub returns-in_ok-take-in-Ok-Some-clause-between : goal.returns-in_ok-take-in-Ok-Some-clause-between
 returns-in_ok-take-in-Ok-Some-clause-between g c =
@@ -46,8 +33,8 @@ returns-in_ok-put-in-Ok-None-clause-between g c =
     record {
       ready = c.in_ok-put-in-Ok-None.ensures.continues;
       fresh = c.in-Ok-None.ensures.fresh;
-      count = omega (arith, found.2, c.put.ensures.count, c.requires.count);
-      short = omega (arith, found.2, c.requires.short);
+      count = omega (arith, found.3, c.put.ensures.count, c.requires.count);
+      short = omega (arith, found.3, c.requires.short);
     }
 
 pub returns-in_ok-take-in-Ok-Some-clause-more : goal.returns-in_ok-take-in-Ok-Some-clause-more
@@ -70,6 +57,3 @@ pub returns-in-Err-clause-step : goal.returns-in-Err-clause-step
 returns-in-Err-clause-step g c input was r =
     let refused = c.in-Err.ensures.refused c.requires.fresh in
     read_refused g.S.Source input was c.args.self.now c.refuse.new.self c.args.reader.now c.next.new.self r c.in-Err.refusal c.refuse.result refused.0 refused.1 (c.refuse.ensures.refuses was r.sections r.left r.putting r.holds)
-
-pub returns-in-Err-clause-source : goal.returns-in-Err-clause-source
-returns-in-Err-clause-source g c = (c.refuse.ensures.faults _ _ (c.in-Err.ensures.cause c.requires.fresh), c.next.ensures.place)

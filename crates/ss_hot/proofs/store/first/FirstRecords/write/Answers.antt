@@ -3,6 +3,7 @@ use Rattle.std.proofs.lemmas.Result.{err_from_is_err_and}
 use Rattle.std.specs.Prelude.{Result, Err}
 use Rattle.ss_device.proofs.Goes.{touches}
 use Rattle.ss_gatelog.specs.GateLog.{Log}
+use Rattle.ss_gatelog.proofs.Logs.{stands_sure}
 use Rattle.ss_records.specs.declared.record.Record.TheVariants as record_kind
 use Rattle.ss_records.specs.Record.{spelling}
 use Rattle.ss_store.specs.declared.fault.StoreFault.{StoreFault}
@@ -36,7 +37,7 @@ returns-in_err-append_record-clause-errors g c e is =
     which e c.append_record.result was
     (λ file need room answer. let full = c.append_record.ensures.appended.full file need room answer in
     omega (arith, full.1, full.2, full.3, ap (λ (l : Log). l.limit) c.in-Ok.ensures.ok, ap (λ (l : Log). l.end) c.in-Ok.ensures.ok, c.self.invariant.0.limit.0, ap (length {A = ℕ}) (c.deref_mut.ensures.value ∙ c.self.invariant.1), length-frame (spelling (record_kind.Generation 1)), length-Generation 1))
-    c.append_record.ensures.appended.not_damaged c.append_record.ensures.appended.has_memory
+    c.append_record.ensures.appended.not_damaged c.append_record.ensures.memory
 
 pub append_record-requires-2-clause-body : goal.append_record-requires-2-clause-body
 append_record-requires-2-clause-body g c =
@@ -50,11 +51,11 @@ pub returns-in_err-append_record-2-clause-errors : goal.returns-in_err-append_re
 returns-in_err-append_record-2-clause-errors g c e is =
     let fault = err_from_is_err_and c.from_residual-in_err-append_record-2.result c.from_residual-in_err-append_record-2.ensures.1 in
     let was : c.append_record-2.result ≡ Err e = cc (fault.1, fault.2, is, c.in_err-append_record-2.was) in
-    let log : c.append_record.new.log ≡ record c.in-Ok.log { end = c.in-Ok.log.end + length c.deref_mut.result.now } = c.in_ok-append_record.ensures.appended.ok in
+    let log : c.append_record.new.log ≡ record c.in-Ok.log { end = c.in-Ok.log.end + length c.deref_mut.result.now; unsure = false } = c.in_ok-append_record.ensures.appended.ok in
     which e c.append_record-2.result was
     (λ file need room answer. let full = c.append_record-2.ensures.appended.full file need room answer in
     omega (arith, full.1, full.2, full.3, ap (λ (l : Log). l.limit) log, ap (λ (l : Log). l.end) log, ap (λ (l : Log). l.limit) c.in-Ok.ensures.ok, ap (λ (l : Log). l.end) c.in-Ok.ensures.ok, c.self.invariant.0.limit.0, ap (length {A = ℕ}) (c.deref_mut.ensures.value ∙ c.self.invariant.1), length-frame (spelling (record_kind.Generation 1)), length-Generation 1, ap (length {A = ℕ}) (c.deref_mut-2.ensures.value ∙ c.self.invariant.2), length-frame (spelling (record_kind.Config c.self.inside.config)), length-Config c.self.inside.config))
-    c.append_record-2.ensures.appended.not_damaged c.append_record-2.ensures.appended.has_memory
+    c.append_record-2.ensures.appended.not_damaged c.append_record-2.ensures.memory
 
 pub invariant_of-result : goal.invariant_of-result
 invariant_of-result g c = rw c.new.ensures (within_empty c.self.inside.config c.append_record-2.new.log
@@ -66,11 +67,12 @@ returns-clause-new g c =
     let two = c.in_ok-append_record.ensures.appended.ok in
     let three = c.in_ok-append_record-2.ensures.appended.ok in
     let limit : c.append_record-2.new.log.limit ≡ c.self.inside.config.limit = ap (λ (l : Log). l.limit) three ∙ ap (λ (l : Log). l.limit) two ∙ ap (λ (l : Log). l.limit) one in
-    let unsure : c.append_record-2.new.log.unsure ≡ false = ap (λ (l : Log). l.unsure) three ∙ ap (λ (l : Log). l.unsure) two ∙ ap (λ (l : Log). l.unsure) one in
+    let unsure : c.append_record-2.new.log.unsure ≡ false = ap (λ (l : Log). l.unsure) three in
     record {
       keeps = λ told. rw (sym c.self.view_is) (rw c.new.ensures (keeps_new g.D.Disk _ c.self.inside.config c.append_record-2.new.log c.self.invariant.0 limit unsure
-          (c.in_ok-append_record-2.ensures.told (record_kind.Config c.self.inside.config) (record_kind.Generation 1 ∷ []) (c.deref_mut-2.ensures.value ∙ c.self.invariant.2) told
-          (c.in_ok-append_record.ensures.told (record_kind.Generation 1) [] (c.deref_mut.ensures.value ∙ c.self.invariant.1) told (c.in-Ok.ensures.sure told)).appended).appended));
+          (c.in_ok-append_record-2.ensures.told (record_kind.Config c.self.inside.config) (record_kind.Generation 1 ∷ []) [] (c.deref_mut-2.ensures.value ∙ c.self.invariant.2) told
+          (stands_sure g.D.Disk _ _ _ _ (ap (λ (l : Log). l.unsure) two) (c.in_ok-append_record.ensures.told (record_kind.Generation 1) [] [] (c.deref_mut.ensures.value ∙ c.self.invariant.1) told
+          (stands_sure g.D.Disk _ _ _ _ (ap (λ (l : Log). l.unsure) one) (c.in-Ok.ensures.sure told))).appended)).appended));
       settings = c.self.view_is;
       places = c.new.ensures;
       settled = record { sure = unsure; log = (ap (λ (l : Log). l.file) three ∙ ap (λ (l : Log). l.file) two ∙ ap (λ (l : Log). l.file) one, limit); known = c.in_ok-append_record-2.ensures.appended.known };

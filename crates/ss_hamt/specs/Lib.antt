@@ -1,0 +1,4 @@
+pub mod Slots
+pub mod Node
+pub mod Paths
+pub mod Walks

@@ -1,0 +1,10 @@
+pub mod Sizes
+pub mod Grown
+pub mod Writes
+pub mod Starts
+pub mod Walks
+pub mod Sets
+pub mod Faults
+pub mod Opened
+pub mod Readings
+pub mod EachReading

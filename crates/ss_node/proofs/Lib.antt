@@ -1,0 +1,5 @@
+pub mod Ones
+pub mod Rows
+pub mod Visiting
+pub mod Naming
+pub mod Members

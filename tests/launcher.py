@@ -23,19 +23,27 @@ exit 7
 # A toolchain that builds this program. A file beside it can have it fail, change a source meanwhile, or take its time.
 TOOLCHAIN = """#!/bin/sh
 tools=$(dirname "$0")
-crate=$(basename "$PWD")
-echo "$crate: $*" >>"$tools/calls"
+echo "$*" >>"$tools/calls"
+prove() {
+    mkdir -p "../$1/out/rlib"
+    touch "../$1/out/rlib"
+}
 case $1 in
-lib)
-    if [ "$crate" = middle ] && [ -e "$tools/fails" ]; then
+all)
+    sleep 0.1
+    prove low
+    prove other
+    if [ -e "$tools/fails" ]; then
+        echo '== low'
         echo './src/lib.rt:3:1: error: it is not so' >&2
         exit 1
     fi
-    if [ "$crate" = other ] && [ -e "$tools/waits" ]; then
-        echo $$ >"$tools/waiting"
+    if [ -e "$tools/waits" ]; then
+        touch "$tools/waiting"
         while [ -e "$tools/waits" ]; do sleep 0.1; done
     fi
-    echo proved
+    prove middle
+    printf '== %s\\n' low other middle splitstore
     ;;
 run)
     if [ -e "$tools/changes" ]; then
@@ -135,7 +143,7 @@ class Repository:
 
     def builds(self):
         """How often the program was built."""
-        return sum(each.startswith("splitstore: run ") for each in self.calls())
+        return self.calls().count("run -- --version")
 
     def tool(self, name, text=""):
         """Puts a file beside the toolchain, and gives its path."""
@@ -168,8 +176,7 @@ def first_build(trial):
     expect("the second run", repository.run("init", folder=trial.folder), printed(trial.folder, "init"))
     expect("how often the program was built", repository.builds(), 1)
     with open(repository.log, encoding="utf-8") as file:
-        wanted = "== low\nproved\n== other\nproved\n== middle\nproved\n== splitstore\nthe program is run, and prints this\n"
-        expect("the log", file.read(), wanted)
+        expect("the log", file.read(), "== low\n== other\n== middle\n== splitstore\nthe program is run, and prints this\n")
     files = sorted(os.listdir(os.path.dirname(repository.program)))
     expect("the files beside the program", files, ["build.log", "splitstore", "splitstore.streams"])
 
@@ -232,8 +239,8 @@ def changed_meanwhile(trial):
 @check("if the program is not proved or built, the launcher ends with status 1 and the place in the log, and tries again the next time")
 def failing_build(trial):
     repository = Repository(trial)
-    begun = {"fails": BEGIN + LIBRARIES, "breaks": BEGIN + LIBRARIES + END.splitlines(keepends=True)[0]}
-    for what, line in (("fails", 6), ("breaks", 8), ("fails", 6)):
+    begun = {"fails": BEGIN + b"".join(LIBRARIES.splitlines(keepends=True)[:2]), "breaks": BEGIN + LIBRARIES + END.splitlines(keepends=True)[0]}
+    for what, line in (("fails", 2), ("breaks", 5), ("fails", 2)):
         path = repository.tool(what)
         wanted = begun[what] + f"splitstore: the program was not built; the log says why: {repository.log}:{line}\n".encode("utf-8")
         expect(f"a run whose build {what}", repository.run("trace", script="0 open\n"), Ended(1, b"", wanted))
@@ -266,7 +273,7 @@ def progress(trial):
     expect("the progress of all", TIME.sub(b"", came), PROGRESS)
 
 
-@check("the launcher proves each crate by as many proofs at once as there are processors that it may use, where there is memory for them")
+@check("the launcher proves as many crates at once as there are processors that it may use, where there is memory for them")
 def processors(trial):
     repository = Repository(trial)
     most = len(os.sched_getaffinity(0))
@@ -274,15 +281,11 @@ def processors(trial):
         free = int(re.search(r"MemAvailable: +([0-9]+) kB", file.read())[1])
     for count in sorted({1, most}):
         used = sorted(os.sched_getaffinity(0))[:count]
-        calls = len(repository.calls())
         repository.run(before=[lambda it=used: os.sched_setaffinity(0, it)])
-        lines = [re.fullmatch(r"([a-z]+): (?:lib|run) --jobs ([0-9]+)(?: -- --version)?", each) for each in repository.calls()[calls:]]
-        expect("the crates", [line[1] for line in lines], ["low", "other", "middle", "splitstore"])
+        jobs = int(re.fullmatch(r"all check --jobs ([0-9]+)", repository.calls()[-2])[1])
         # what others take meanwhile is left out of account
         is_ample = free > 2 * 2_000_000 * count
-        for line in lines:
-            jobs = int(line[2])
-            expect_that(jobs == count if is_ample else 1 <= jobs <= count, f"{line[1]} has {jobs} of {count} processors")
+        expect_that(jobs == count if is_ample else 1 <= jobs <= count, f"{jobs} crates at once on {count} processors")
         os.remove(repository.program)
     return f"{most} processors"
 
@@ -357,8 +360,7 @@ def examples_before(trial):
         ended = repository.run(*names, launcher=run, folder="/")
         expect(f"status and standard error of a later run of {names}", (ended.status, ended.err), (7, b""))
         os.remove(repository.program)
-    calls = [each.split()[1] for each in repository.calls()]
-    expect("the calls of the toolchain", calls, ["try", "lib", "lib", "lib", "run"] * 2)
+    expect("the calls of the interpreter", [each.split()[0] for each in repository.calls()], ["try", "all", "run"] * 2)
 
 
 @check("where the interpreter runs nothing, or there is no toolchain, examples/run goes on to the launcher")
